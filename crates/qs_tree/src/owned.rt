@@ -1,0 +1,145 @@
+//! Trees and lists of trees that own their cells.
+
+ghost use Rattle.std.specs.Prelude.{◌≡◌, [], ◌∷◌, ◌++◌, IfOk, OnOk, OnErr};
+ghost use Rattle.qs_tree.specs.Trees.{node};
+ghost use Rattle.qs_tree.specs.Cells.{tree_of, trees_of};
+
+use crate::borrowed::{ForestRef, TreeRef};
+use crate::cell::{Cell, Label};
+use std::alloc::{AllocError, Global};
+use std::marker::Model;
+
+/// A tree.
+#[derive(Drop)]
+pub struct Tree {
+    cells: Vec<Cell>,
+}
+
+impl Model for Tree {
+    ghost use Rattle.qs_tree.specs.Trees.{Tree as LabelledTree};
+    ghost use Rattle.qs_tree.specs.Cells.{tree_of, IsTree, tree_code};
+
+    ghost Value = { LabelledTree };
+
+    ghost coded = { tree_code };
+
+    ghost view = { λ t. tree_of t.cells.items };
+
+    ghost invariant = { λ t. IsTree t.cells.items };
+}
+
+impl Tree {
+    /// The tree of one node.
+    pub fn leaf(alloc: Global, label: Label) -> Result<Tree, AllocError>
+        ensures { IfOk result (λ t. t ≡ node label []) }
+    {
+        let mut cells = Vec::new(alloc);
+        cells.push(Cell { label, extent: 1 })?;
+        Ok(Tree { cells })
+    }
+
+    /// The tree with this label and these subtrees.
+    pub fn node(alloc: Global, label: Label, kids: ForestRef<'_>) -> Result<Tree, AllocError>
+        ensures { IfOk result (λ t. t ≡ node label (trees_of kids.entry.cells.now)) }
+    {
+        let extent = kids.cells.len() + 1;
+        let mut cells = Vec::with_capacity(alloc, extent)?;
+        cells.push(Cell { label, extent })?;
+        cells.extend_from_slice(kids.cells)?;
+        Ok(Tree { cells })
+    }
+
+    pub fn of(alloc: Global, tree: TreeRef<'_>) -> Result<Tree, AllocError>
+        ensures { IfOk result (λ t. t ≡ tree_of tree.entry.cells.now) }
+    {
+        Ok(Tree {
+            cells: Vec::from_slice(alloc, tree.cells)?,
+        })
+    }
+
+    pub fn view(&self) -> TreeRef<'_>
+        ensures { tree_of result.cells.now ≡ self.now }
+    {
+        TreeRef { cells: &self.cells }
+    }
+
+    pub fn copy(&self) -> Result<Tree, AllocError>
+        ensures { IfOk result (λ t. t ≡ self.now) }
+    {
+        Ok(Tree {
+            cells: self.cells.clone()?,
+        })
+    }
+}
+
+/// A list of trees.
+#[derive(Drop)]
+pub struct Forest {
+    cells: Vec<Cell>,
+}
+
+impl Model for Forest {
+    ghost use Rattle.std.specs.Prelude.{List};
+    ghost use Rattle.std.specs.Coded.{coded_list};
+    ghost use Rattle.qs_tree.specs.Trees.{Tree as LabelledTree};
+    ghost use Rattle.qs_tree.specs.Cells.{trees_of, IsForest, tree_code};
+
+    ghost Value = { List LabelledTree };
+
+    ghost coded = { coded_list tree_code };
+
+    ghost view = { λ f. trees_of f.cells.items };
+
+    ghost invariant = { λ f. IsForest f.cells.items };
+}
+
+impl Forest {
+    /// The empty list.
+    pub fn empty(alloc: Global) -> Forest
+        ensures { result ≡ [] }
+    {
+        Forest {
+            cells: Vec::new(alloc),
+        }
+    }
+
+    /// Appends a copy of the tree.
+    pub fn push(&mut self, tree: TreeRef<'_>) -> Result<(), AllocError>
+        ensures ok { OnOk result (self.new ≡ self.old ++ tree_of tree.entry.cells.now ∷ []) }
+        ensures err { OnErr result (self.new ≡ self.old) }
+    {
+        self.cells.extend_from_slice(tree.cells)?;
+        Ok(())
+    }
+
+    /// Appends copies of all trees of the list.
+    pub fn splice(&mut self, forest: ForestRef<'_>) -> Result<(), AllocError>
+        ensures ok { OnOk result (self.new ≡ self.old ++ trees_of forest.entry.cells.now) }
+        ensures err { OnErr result (self.new ≡ self.old) }
+    {
+        self.cells.extend_from_slice(forest.cells)?;
+        Ok(())
+    }
+
+    pub fn of(alloc: Global, forest: ForestRef<'_>) -> Result<Forest, AllocError>
+        ensures { IfOk result (λ f. f ≡ trees_of forest.entry.cells.now) }
+    {
+        Ok(Forest {
+            cells: Vec::from_slice(alloc, forest.cells)?,
+        })
+    }
+
+    pub fn view(&self) -> ForestRef<'_>
+        ensures { trees_of result.cells.now ≡ self.now }
+    {
+        ForestRef { cells: &self.cells }
+    }
+
+    pub fn copy(&self) -> Result<Forest, AllocError>
+        ensures { IfOk result (λ f. f ≡ self.now) }
+    {
+        Ok(Forest {
+            cells: self.cells.clone()?,
+        })
+    }
+}
