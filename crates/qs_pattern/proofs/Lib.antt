@@ -1,0 +1,3 @@
+pub mod InstanceLemmas
+pub mod PatternLemmas
+pub mod SubstitutionLemmas

@@ -1,0 +1,9 @@
+pub mod Letters
+pub mod Variables
+pub mod Classes
+pub mod Patterns
+pub mod Substitutions
+pub mod Instances
+pub mod Conditions
+pub mod Rules
+pub mod Codes

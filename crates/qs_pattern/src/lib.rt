@@ -1,0 +1,19 @@
+//! Patterns, substitutions, conditions and rules.
+#![tactic(auto)]
+
+mod copies;
+mod instances;
+mod pattern;
+mod rule;
+mod subst;
+mod variable;
+
+pub use instances::{forest_of, instance};
+pub use pattern::{Head, Pattern};
+pub use rule::Rule;
+pub use std::alloc::AllocError as Memory;
+pub use subst::{Subst, Value};
+pub use variable::{Var, VarClass};
+
+#[cfg(test)]
+mod tests;
