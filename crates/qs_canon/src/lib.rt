@@ -1,0 +1,8 @@
+//! The rounds of a grammar, and their closure.
+#![tactic(auto)]
+
+mod closure;
+pub mod laws;
+
+pub use closure::{Closure, Placed};
+pub use std::alloc::AllocError as Memory;

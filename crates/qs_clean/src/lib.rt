@@ -1,0 +1,6 @@
+//! Cleaning: what a closure leaves.
+#![tactic(auto)]
+
+pub mod laws;
+
+pub use std::alloc::AllocError as Memory;

@@ -1,0 +1,27 @@
+//! Firings.
+
+ghost use Rattle.std.specs.Prelude.{◌≡◌, IfOk};
+ghost use Rattle.qs_firing.specs.Firings.{order};
+
+use qs_pattern::Subst;
+use std::alloc::{AllocError, Global};
+use std::marker::Model;
+
+/// A firing: a rule by its number, a path by the numbers of its arcs, and a substitution.
+#[derive(Drop)]
+pub struct Firing {
+    pub rule: u32,
+    pub path: Vec<u32>,
+    pub subst: Subst,
+}
+
+impl Model for Firing {
+    ghost use Rattle.qs_firing.specs.Firings.{Firing as FiringOfRule};
+    ghost use Rattle.qs_firing.specs.Codes.{firing_code};
+
+    ghost Value = { FiringOfRule };
+
+    ghost coded = { firing_code };
+
+    ghost view = { λ f. record { rule = f.rule; path = f.path.items; values = f.subst } };
+}

@@ -1,0 +1,15 @@
+//! Laws of firings, over their definitions alone.
+
+ghost use Rattle.std.specs.Prelude.{◌≡◌, ◌⊎◌, List};
+ghost use Rattle.std.specs.declared.cmp.Ordering.TheVariants.{Equal};
+ghost use Rattle.qs_graph.specs.Graphs.{Arc};
+ghost use Rattle.qs_firing.specs.Firings.{Firing, Before, key, order};
+
+/// Keys order firings strictly and totally: of two firings one comes before the other, or their keys are equal, and not
+/// two of these at once.
+pub fn order_is_strict_and_total()
+    ensures asymmetric { (f g : Firing) → Before f g → Before g f → ⊥ }
+    ensures transitive { (f g h : Firing) → Before f g → Before g h → Before f h }
+    ensures total { (f g : Firing) → (Before f g ⊎ Before g f) ⊎ (key f ≡ key g) }
+    ensures apart { (f g : Firing) → Before f g → key f ≡ key g → ⊥ }
+{}
