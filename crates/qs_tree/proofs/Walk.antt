@@ -8,7 +8,11 @@ use Rattle.qs_tree.specs.declared.cell.Label.{Label}
 use Rattle.qs_tree.specs.declared.cell.Cell.{Cell}
 use Rattle.qs_tree.specs.Trees.{Forest, no_tree, first_tree, Tree, trees, size, forest, forest-trees}
 use Rattle.qs_tree.specs.Cells.{tree_of, forest_in, trees_of}
-use Rattle.qs_tree.specs.Text.{spelling, in_parens, behind_comma, forest_text, tree_text, AreNamed, IsNamed}
+use Rattle.qs_tree.specs.Text.{label_text, name_of, in_parentheses, behind_comma, forest_text, tree_text, AreNamed, IsNamed}
+
+-- a label as it is written
+abbrev pub spelling : List (List ℕ) → Label → List ℕ
+spelling names l = label_text (name_of names l)
 
 abbrev pub forests : List ForestRef → List Forest
 forests fs = map (λ f. forest_in f.cells.now) fs
@@ -70,11 +74,11 @@ regroup_down : (o s a b c w : List ℕ) → o ++ ((s ++ 40 ∷ ((a ++ (b ++ c)) 
 regroup_down o s a b c w = simp append_assoc
 
 down_text : (names : List (List ℕ)) (o : List ℕ) (l : Label) (b : Forest) (f : Tree) (r : Forest) (ws : List Forest) → b ≡ first_tree f.root f.subtrees r
-    → o ++ ((spelling names l ++ in_parens b (forest_text names b)) ++ open_text names ws)
+    → o ++ ((spelling names l ++ in_parentheses b (forest_text names b)) ++ open_text names ws)
     ≡ ((o ++ spelling names l) ++ 40 ∷ []) ++ (tree_text names f ++ open_text names (ws ++ r ∷ []))
 down_text names o l b f r ws e =
-    ap (λ g. o ++ ((spelling names l ++ in_parens g (forest_text names g)) ++ open_text names ws)) e
-    ∙ regroup_down o (spelling names l) (spelling names f.root) (in_parens f.subtrees (forest_text names f.subtrees)) (left_text names r) (open_text names ws)
+    ap (λ g. o ++ ((spelling names l ++ in_parentheses g (forest_text names g)) ++ open_text names ws)) e
+    ∙ regroup_down o (spelling names l) (spelling names f.root) (in_parentheses f.subtrees (forest_text names f.subtrees)) (left_text names r) (open_text names ws)
     ∙ ap (λ w. ((o ++ spelling names l) ++ 40 ∷ []) ++ (tree_text names f ++ w)) (sym (open_text-push names ws r))
 
 pub down : (names : List (List ℕ)) (n : ℕ) (whole o o' : List ℕ) (t f : TreeRef) (ws ws' : List Forest) (r : Forest)
@@ -108,7 +112,7 @@ over_text : (names : List (List ℕ)) (o : List ℕ) (g : Forest) (f : Tree) (r 
 over_text names o g f r vs e =
     ap (λ x. o ++ x) (open_text-push names vs g)
     ∙ ap (λ h. o ++ (left_text names h ++ 41 ∷ open_text names vs)) e
-    ∙ regroup_over o (spelling names f.root) (in_parens f.subtrees (forest_text names f.subtrees)) (left_text names r) (open_text names vs)
+    ∙ regroup_over o (spelling names f.root) (in_parentheses f.subtrees (forest_text names f.subtrees)) (left_text names r) (open_text names vs)
     ∙ ap (λ w. (o ++ 44 ∷ []) ++ (tree_text names f ++ w)) (sym (open_text-push names vs r))
 
 pub over : (names : List (List ℕ)) (n : ℕ) (whole o o' : List ℕ) (f : TreeRef) (ws ws' vs : List Forest) (g r : Forest)
