@@ -1,4 +1,6 @@
 pub mod Lists
+pub mod Names
 pub mod Trees
 pub mod Cells
+pub mod Splits
 pub mod Text
