@@ -1,0 +1,17 @@
+-- What happens to a source or a sink between two moments. Whether it tells its bytes never changes, so an equation
+-- between optional lists says both: the bytes, where they are told, and that they are told now exactly where they
+-- were told before. All three definitions are this project's own.
+use Rattle.std.specs.Prelude.{◌≡◌, ℕ, ◌+◌, ◌-◌, ◌^◌, ◌≤◌, min, List, length, take, Option}
+use Rattle.std.specs.Io.KnownBytes.{append_known, prepend_known}
+
+-- a count rose: it is greater than before, or it stands at the greatest u64
+abbrev pub HasRisen : ℕ → ℕ → Type 0
+HasRisen before now = min (before + 1) (2 ^ 64 - 1) ≤ now
+
+-- n bytes were taken from the front of what was left in a source
+abbrev pub TakesBytes : Option (List ℕ) → Option (List ℕ) → ℕ → Type 0
+TakesBytes old new n = (bytes : List ℕ) × (old ≡ prepend_known bytes new) × (length bytes ≡ n)
+
+-- a prefix of these bytes was appended to what was written to a sink
+abbrev pub AppendsPrefix : Option (List ℕ) → Option (List ℕ) → List ℕ → Type 0
+AppendsPrefix old new bytes = (n : ℕ) × (n ≤ length bytes) × (new ≡ append_known old (take n bytes))

@@ -1,0 +1,23 @@
+//! Sources, from which a program reads its bytes, and sinks, to which it writes them.
+//!
+//! A source or a sink counts its faults, and a call on it fails only where that count rises. Over these two traits
+//! stand `read_all` and `write_all`, which move a whole text. `MemSource`, `SureSource` and `MemSink` hold their
+//! bytes in memory and tell them; `StdSource` and `StdSink` stand over std's readers and writers and tell none.
+#![tactic(auto)]
+
+mod device;
+mod failing;
+mod memory_sink;
+mod memory_source;
+mod standard;
+mod transfer;
+
+pub use device::{Failed, Sink, Source};
+pub use memory_sink::MemSink;
+pub use memory_source::{MemSource, SureSource};
+pub use standard::{StdSink, StdSource};
+pub use std::alloc::AllocError as Memory;
+pub use transfer::{MAX_TEXT_BYTES, ReadEnd, WriteFault, read_all, write_all};
+
+#[cfg(test)]
+mod tests;

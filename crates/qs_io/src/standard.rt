@@ -1,0 +1,124 @@
+// The edge to the outside: a source over a reader of std and a sink over a writer.
+ghost use Rattle.std.specs.Prelude.{◌≡◌, ◌<◌, ◌≤◌, ◌+◌, ◌-◌, ◌^◌, ℕ, IfOk, None, OnErr, OnOk, length, min, take};
+ghost use Rattle.std.specs.Io.KnownBytes.{Appends, ReadConsumes};
+
+use crate::{Failed, Sink, Source};
+use std::io;
+use std::io::{Read, Write};
+use std::marker::Model;
+
+/// A source over a reader. Each error of the reader is a fault. As a source it tells no bytes; what its reads do to
+/// the reader is said where the reader's own contract tells its bytes.
+#[derive(Drop)]
+pub struct StdSource<R> {
+    reader: R,
+    faults: u64,
+}
+
+impl<R> Model for StdSource<R> {
+    ghost use Rattle.qs_io.specs.Standard.{Counted};
+
+    ghost Value = { Counted R };
+
+    ghost view = { λ s. record { device = s.reader; faults = s.faults } };
+}
+
+impl<R: Read> StdSource<R> {
+    /// A source over this reader, with no faults yet.
+    pub fn new(reader: R) -> StdSource<R>
+        ensures { result ≡ record { device = reader; faults = 0 } }
+    {
+        StdSource { reader, faults: 0 }
+    }
+}
+
+impl<R: Read> Source for StdSource<R> {
+    ghost left = { λ _. None };
+
+    ghost faults = { λ s. s.faults };
+
+    fn read(&mut self, room: &mut [u8]) -> Result<usize, Failed>
+        requires { 0 < length room.old }
+
+        ensures bound { IfOk result (λ n. n ≤ length room.new) }
+        ensures reader { ReadConsumes (R.remaining self.old.device) (R.remaining self.new.device) result room.new }
+
+        ensures ok { OnOk result (self.new.faults ≡ self.old.faults) }
+        ensures err { OnErr result (self.new.faults ≡ min (self.old.faults + 1) (2 ^ 64 - 1)) }
+        ensures count { self.old.faults ≤ self.new.faults }
+    {
+        let Ok(taken) = self.reader.read(room) else {
+            self.faults = self.faults.saturating_add(1);
+            return Err(Failed);
+        };
+        Ok(taken)
+    }
+}
+
+/// A sink over a writer, which it flushes after each write. An error of the writer is a fault, whether it comes from
+/// the write or from the flush, and so is a write that takes nothing. As a sink it tells no bytes; what its writes do
+/// to the writer is said where the writer's own contract tells its bytes.
+#[derive(Drop)]
+pub struct StdSink<W> {
+    writer: W,
+    faults: u64,
+}
+
+impl<W> Model for StdSink<W> {
+    ghost use Rattle.qs_io.specs.Standard.{Counted};
+
+    ghost Value = { Counted W };
+
+    ghost view = { λ s. record { device = s.writer; faults = s.faults } };
+}
+
+impl<W: Write> StdSink<W> {
+    /// A sink over this writer, with no faults yet.
+    pub fn new(writer: W) -> StdSink<W>
+        ensures { result ≡ record { device = writer; faults = 0 } }
+    {
+        StdSink { writer, faults: 0 }
+    }
+}
+
+impl<W: Write> Sink for StdSink<W> {
+    ghost written = { λ _. None };
+
+    ghost faults = { λ s. s.faults };
+
+    fn write(&mut self, piece: &[u8]) -> Result<usize, Failed>
+        requires { 0 < length piece.now }
+
+        ensures some { IfOk result (λ n. 0 < n) }
+        ensures bound { IfOk result (λ n. n ≤ length piece.now) }
+        ensures writer { IfOk result (λ n. Appends (W.contents self.old.device) (W.contents self.new.device) (take n piece.now)) }
+
+        ensures ok { OnOk result (self.new.faults ≡ self.old.faults) }
+        ensures err { OnErr result (self.new.faults ≡ min (self.old.faults + 1) (2 ^ 64 - 1)) }
+        ensures count { self.old.faults ≤ self.new.faults }
+
+        // A flush may fail after the writer took some bytes.
+        ensures prefix { OnErr result ((n : ℕ) × (n ≤ length piece.now)
+            × Appends (W.contents self.old.device) (W.contents self.new.device) (take n piece.now)) }
+    {
+        match write_and_flush(&mut self.writer, piece) {
+            Ok(taken) if taken > 0 => Ok(taken),
+            _ => {
+                self.faults = self.faults.saturating_add(1);
+                Err(Failed)
+            }
+        }
+    }
+}
+
+/// Writes the first bytes of `piece`, flushes the writer, and answers how many bytes it took.
+fn write_and_flush<W: Write>(writer: &mut W, piece: &[u8]) -> io::Result<usize>
+    ensures bound { IfOk result (λ n. n ≤ length piece.now) }
+    ensures ok { IfOk result (λ n. Appends (W.contents writer.old) (W.contents writer.new) (take n piece.now)) }
+    ensures err { OnErr result ((n : ℕ) × (n ≤ length piece.now)
+        × Appends (W.contents writer.old) (W.contents writer.new) (take n piece.now)) }
+{
+    let taken = writer.write(piece)?;
+    writer.flush()?;
+    Ok(taken)
+}

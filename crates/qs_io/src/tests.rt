@@ -1,0 +1,140 @@
+use super::*;
+use std::io;
+use std::io::{Read, Write};
+use std::test::Fail;
+
+const TEXT: &[u8] = b"-1- JEAN + VOIT + MARIE -2-.";
+
+#[test]
+fn a_text_is_read_whole_in_pieces_of_any_length(rt: HostRuntime) -> Result<(), Fail> {
+    let alloc = rt.alloc();
+    for piece in [1, 5, 100] {
+        let mut sure = SureSource::new(alloc, TEXT.to_vec(alloc)?, piece);
+        let text = read_all(alloc, &mut sure)?;
+        assert_eq!(rt; text.as_slice(), TEXT, "in pieces of {piece}");
+        let mut source = MemSource::new(alloc, TEXT.to_vec(alloc)?, piece, vec![in alloc]?);
+        let text = read_all(alloc, &mut source)?;
+        assert_eq!(rt; text.as_slice(), TEXT, "in pieces of {piece}");
+        assert_eq!(rt; source.left(), b"".as_slice(), "in pieces of {piece}");
+    }
+    Ok(())
+}
+
+#[test]
+fn the_third_read_of_8_bytes_fails(rt: HostRuntime) -> Result<(), Fail> {
+    let alloc = rt.alloc();
+    let mut source = MemSource::new(alloc, TEXT.to_vec(alloc)?, 8, vec![in alloc; 3]?);
+    assert_eq!(rt; read_all(alloc, &mut source).err(), Some(ReadEnd::Fault));
+    assert_eq!(rt; source.left(), b"+ MARIE -2-.".as_slice());
+    assert_eq!(rt; source.faults(), 1);
+    let rest = read_all(alloc, &mut source)?;
+    assert_eq!(rt; rest.as_slice(), b"+ MARIE -2-.".as_slice());
+    assert_eq!(rt; source.faults(), 1);
+    Ok(())
+}
+
+#[test]
+fn a_text_may_have_4194304_bytes_and_no_more(rt: HostRuntime) -> Result<(), Fail> {
+    let alloc = rt.alloc();
+    for (length, end, left) in [
+        (4_194_304, None, 0),
+        (4_194_305, Some(ReadEnd::TooLong), 0),
+        (4_200_000, Some(ReadEnd::TooLong), 5695),
+    ] {
+        let bytes = vec![in alloc; b' '; length]?;
+        let mut source = MemSource::new(alloc, bytes, 5000, vec![in alloc]?);
+        let text = read_all(alloc, &mut source);
+        assert_eq!(rt; text.err(), end, "at {length} bytes");
+        assert_eq!(rt; source.left().len(), left, "at {length} bytes");
+        assert_eq!(rt; source.faults(), 0, "at {length} bytes");
+    }
+    Ok(())
+}
+
+#[test]
+fn a_text_is_written_in_pieces_up_to_the_call_that_fails(rt: HostRuntime) -> Result<(), Fail> {
+    let alloc = rt.alloc();
+    let mut sink = MemSink::new(alloc, 100, 10, vec![in alloc; 5]?)?;
+    assert_eq!(rt; write_all(&mut sink, TEXT), Ok(()));
+    assert_eq!(rt; sink.written(), TEXT);
+    assert_eq!(rt; write_all(&mut sink, b"GRAPHES SUIVANTS"), Err(WriteFault));
+    assert_eq!(rt;
+        sink.written(),
+        b"-1- JEAN + VOIT + MARIE -2-.GRAPHES SU".as_slice()
+    );
+    assert_eq!(rt; sink.faults(), 1);
+    Ok(())
+}
+
+#[test]
+fn a_full_sink_fails_at_every_further_write(rt: HostRuntime) -> Result<(), Fail> {
+    let alloc = rt.alloc();
+    let mut sink = MemSink::new(alloc, 7, 5, vec![in alloc]?)?;
+    for faults in [1, 2] {
+        assert_eq!(rt; write_all(&mut sink, TEXT), Err(WriteFault));
+        assert_eq!(rt; sink.written(), b"-1- JEA".as_slice());
+        assert_eq!(rt; sink.faults(), faults);
+    }
+    Ok(())
+}
+
+#[test]
+fn a_whole_text_takes_one_write_and_an_empty_one_none(rt: HostRuntime) -> Result<(), Fail> {
+    let alloc = rt.alloc();
+    let mut sink = MemSink::new(alloc, 100, 100, vec![in alloc; 2]?)?;
+    assert_eq!(rt; write_all(&mut sink, b""), Ok(()));
+    assert_eq!(rt; write_all(&mut sink, TEXT), Ok(()));
+    assert_eq!(rt; write_all(&mut sink, b""), Ok(()));
+    assert_eq!(rt;
+        write_all(&mut sink, TEXT),
+        Err(WriteFault),
+        "the second write"
+    );
+    assert_eq!(rt; sink.written(), TEXT);
+    Ok(())
+}
+
+#[test]
+fn a_slice_is_read_and_a_vector_written(rt: HostRuntime) -> Result<(), Fail> {
+    let alloc = rt.alloc();
+    let text = read_all(alloc, &mut StdSource::new(TEXT))?;
+    assert_eq!(rt; text.as_slice(), TEXT);
+    let mut bytes = Vec::new(alloc);
+    assert_eq!(rt; write_all(&mut StdSink::new(&mut bytes), TEXT), Ok(()));
+    assert_eq!(rt; bytes.as_slice(), TEXT);
+    Ok(())
+}
+
+#[test]
+fn an_error_or_a_write_of_nothing_is_a_fault(rt: HostRuntime) -> Result<(), Fail> {
+    let text = read_all(rt.alloc(), &mut StdSource::new(Broken));
+    assert_eq!(rt; text.err(), Some(ReadEnd::Fault));
+    assert_eq!(rt; write_all(&mut StdSink::new(Broken), TEXT), Err(WriteFault));
+    let mut full = [0; 7];
+    assert_eq!(rt;
+        write_all(&mut StdSink::new(full.as_mut_slice()), TEXT),
+        Err(WriteFault)
+    );
+    assert_eq!(rt; full.as_slice(), b"-1- JEA".as_slice());
+    Ok(())
+}
+
+/// A reader whose reads fail, and a writer that takes all but whose flushes fail.
+#[derive(Drop)]
+struct Broken;
+
+impl Read for Broken {
+    fn read(&mut self, _: &mut [u8]) -> io::Result<usize> {
+        Err(io::Error::other("broken"))
+    }
+}
+
+impl Write for Broken {
+    fn write(&mut self, bytes: &[u8]) -> io::Result<usize> {
+        Ok(bytes.len())
+    }
+
+    fn flush(&mut self) -> io::Result<()> {
+        Err(io::Error::other("broken"))
+    }
+}
