@@ -1,0 +1,6 @@
+pub mod Totals
+pub mod Keeps
+pub mod GivingBack
+pub mod NewPasses
+pub mod Closing
+pub mod Counting
