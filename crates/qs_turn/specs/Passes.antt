@@ -1,7 +1,6 @@
 -- What contracts see of a `Turns`, of its passes and of a value that is held.
 use Rattle.std.specs.Prelude.{◌≡◌, ℕ, Option, Some, List, slice_get}
 use Rattle.qs_turn.specs.declared.told.Told.{Ghosts}
-use Rattle.qs_turn.specs.declared.turns.Held.{Held}
 use Rattle.qs_turn.specs.declared.turns.Pass.{Pass}
 use Rattle.qs_turn.specs.declared.turns.Turns.{Turns}
 use Rattle.qs_turn.specs.Protocol.{first_pass_count, first_base, first_seen, first_turns}
@@ -10,10 +9,6 @@ use Rattle.qs_turn.specs.Seats.{IsIdle, IsServed}
 -- How many passes `open` gave.
 abbrev pub passes_of : {T E : Type 0} → Turns T E → ℕ
 passes_of t = t.table.shared.key.passes
-
--- The value that is held.
-abbrev pub value_of : {T : Type 0} → Held T → T
-value_of h = h.value
 
 module _ {T E : Type 0} {g : Ghosts T E} where
   -- `open` gave the pass with these turns.

@@ -115,7 +115,7 @@ fn passes_are_numbered_from_zero(rt: HostRuntime) -> Result<(), Fail> {
     assert_eq!(rt; passes[0].number(), 0);
     assert_eq!(rt; passes[1].number(), 1);
     assert_eq!(rt; passes[2].number(), 2);
-    assert_eq!(rt; turns.close(passes).items.as_slice(), &[7]);
+    assert_eq!(rt; turns.close(passes).items.as_slice(), [7].as_slice());
     Ok(())
 }
 
@@ -130,7 +130,7 @@ fn history_of_one_pass_grows_by_what_it_enters(rt: HostRuntime) -> Result<(), Fa
     assert!(rt; add_number(&rt, &turns, &mut pass));
     assert!(rt; add_number(&rt, &turns, &mut pass));
     passes.push_reserved(pass);
-    assert_eq!(rt; turns.close(passes).items.as_slice(), &[7, 7, 0, 0, 0]);
+    assert_eq!(rt; turns.close(passes).items.as_slice(), [7, 7, 0, 0, 0].as_slice());
     Ok(())
 }
 
@@ -142,9 +142,9 @@ fn leaving_without_an_entry_keeps_the_history(rt: HostRuntime) -> Result<(), Fai
     let (turns, mut passes) = Turns::open(rt.alloc(), numbers, 1)?;
     let mut pass = passes.pop().unwrap();
     let mut held = turns.enter(&rt, &mut pass);
-    assert_eq!(rt; held.value().items.as_slice(), &[7]);
+    assert_eq!(rt; held.value().items.as_slice(), [7].as_slice());
     turns.leave(&mut pass, held, None);
     passes.push_reserved(pass);
-    assert_eq!(rt; turns.close(passes).items.as_slice(), &[7]);
+    assert_eq!(rt; turns.close(passes).items.as_slice(), [7].as_slice());
     Ok(())
 }

@@ -7,6 +7,7 @@ use crate::protocol::{Draw, Enter, JoinPasses, Look, Opening, SeatView, Serve, S
 use crate::told::Told;
 use atomic_table::{Seat, Table};
 use std::alloc::Global;
+use std::marker::Model;
 use std::snapshot::Snapshot;
 use std::sync::Wait;
 use std::thread;
@@ -43,8 +44,14 @@ pub struct Pass<T: Told> {
 }
 
 /// The value, for one turn. It can't be dropped: `Turns::leave` takes it back.
-pub struct Held<T> {
+pub struct Held<T: Told> {
     value: T,
+}
+
+impl<T: Told> Model for Held<T> {
+    ghost Value = { T };
+
+    ghost view = { λ h. h.value };
 }
 
 impl<T: Told> Turns<T> {
@@ -52,7 +59,7 @@ impl<T: Told> Turns<T> {
     ghost use Rattle.qs_turn.specs.declared.protocol.Stage.TheVariants.{Idle};
     ghost use Rattle.qs_turn.specs.History.{ContinuedByOthers, followed_by};
     ghost use Rattle.qs_turn.specs.Seats.{IsSameSeat, IsIdle, IsWaiting, IsServed, HasTaken, IsGivingBack};
-    ghost use Rattle.qs_turn.specs.Passes.{passes_of, value_of, IsPassOf, IsSamePass, HoldsNoTurn, HoldsTurn, KnowsBase, number_of, seen_of, turns_of, AreNewPasses};
+    ghost use Rattle.qs_turn.specs.Passes.{passes_of, IsPassOf, IsSamePass, HoldsNoTurn, HoldsTurn, KnowsBase, number_of, seen_of, turns_of, AreNewPasses};
 
     /// Makes the value one that passes take turns on, and that many passes. They are numbered from 0 in order, know the value's base, have seen the value's history, and hold no turn.
     ///
@@ -131,8 +138,8 @@ impl<T: Told> Turns<T> {
         ensures same { IsSamePass T.base pass.old pass.new }
         ensures turn { HoldsTurn pass.new }
         ensures turns { turns_of pass.new ≡ turns_of pass.old + 1 }
-        ensures base { KnowsBase T.base pass.new (T.base (value_of result)) }
-        ensures history { T.history (value_of result) ≡ seen_of pass.new }
+        ensures base { KnowsBase T.base pass.new (T.base result) }
+        ensures history { T.history result ≡ seen_of pass.new }
         ensures others { ContinuedByOthers T.pass_of (passes_of self.now) (number_of pass.old) (seen_of pass.old) (seen_of pass.new) }
     {
         let ticket = self.draw(&mut pass.seat);
@@ -164,7 +171,7 @@ impl<T: Told> Turns<T> {
         requires waits { IsWaiting seat.old ticket }
         ensures own { IsSameSeat seat.old seat.new }
         ensures none { IfNone result (seat.new.me ≡ seat.old.me) }
-        ensures some { IfSome result (λ h. HasTaken T.base T.history T.pass_of seat.old seat.new (value_of h)) }
+        ensures some { IfSome result (λ h. HasTaken T.base T.history T.pass_of seat.old seat.new h) }
     {
         if self.table.shared.load::<Look<T>>(seat, SERVING) != ticket {
             return None;
@@ -182,10 +189,10 @@ impl<T: Told> Turns<T> {
     pub fn leave(&self, pass: &mut Pass<T>, held: Held<T>, entry: Option<T::Entry>)
         requires own { IsPassOf self.now pass.old }
         requires turn { HoldsTurn pass.old }
-        requires base { KnowsBase T.base pass.old (T.base (value_of held)) }
-        requires history { T.history (value_of held) ≡ followed_by (seen_of pass.old) entry }
+        requires base { KnowsBase T.base pass.old (T.base held) }
+        requires history { T.history held ≡ followed_by (seen_of pass.old) entry }
         requires names { IfSome entry (λ e. T.pass_of e ≡ number_of pass.old) }
-        requires room { length (T.history (value_of held)) < 2 ^ 64 - 1 }
+        requires room { length (T.history held) < 2 ^ 64 - 1 }
         ensures own { IsPassOf self.now pass.new }
         ensures same { IsSamePass T.base pass.old pass.new }
         ensures idle { HoldsNoTurn pass.new }
@@ -273,15 +280,14 @@ impl<T: Told> Pass<T> {
     }
 }
 
-impl<T> Held<T> {
+impl<T: Told> Held<T> {
     ghost use Rattle.std.specs.Borrow.{sem};
     ghost use Rattle.qs_turn.specs.Lending.{LendsValue};
-    ghost use Rattle.qs_turn.specs.Passes.{value_of};
 
     /// The value, which may be changed through this. Its base is to stay.
     pub fn value(&mut self) -> &mut T
-        ensures* writes_back { sem 𝓛 (LendsValue T.row self.entry result) }
-        ensures value { result.now ≡ value_of self.old }
+        ensures* writes_back { sem 𝓛 (LendsValue T.row T.Entry.row T.Told self.entry result) }
+        ensures value { result.now ≡ self.old }
     {
         &mut self.value
     }

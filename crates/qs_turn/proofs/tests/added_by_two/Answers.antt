@@ -18,5 +18,7 @@ returns g c =
     let last = c.join-first.result.1.0 in
     let back = two_back (λ e. e) _ c.close.result.items.items _ c.pop-2.new.self.items first last (c.push_reserved-2.ensures.items ∙ ap (λ ps. ps ++ last ∷ []) c.push_reserved.ensures.items) c.close.ensures.history in
     let one = c.join-first.ensures.first in
-    let two = c.join-first.ensures.second in
-    (entries_of_one (λ e. e) _ _ first 0 _ back.0 one.0.2 one.1, entries_of_one (λ e. e) _ _ last 1 _ back.1 two.0.2 two.1)
+    let two = c.join-first.ensures.second in record {
+      first = entries_of_one (λ e. e) _ _ first 0 _ back.0 one.0.2 one.1;
+      second = entries_of_one (λ e. e) _ _ last 1 _ back.1 two.0.2 two.1;
+    }
