@@ -1,10 +1,10 @@
 -- What a seat knows behind a look, and behind giving the value back.
-use Rattle.std.proofs.Common.{◌≡◌, ◌≢◌, ℕ, eqb, List, [], ◌∷◌, length, refl, sym, ap, ◌∙◌, subst, eq-eqb, ne_eqb, arith}
+use Rattle.std.proofs.Common.{◌≡◌, ℕ, eqb, List, [], ◌∷◌, length, refl, sym, ap, ◌∙◌, subst, eq-eqb, arith}
 use Rattle.std.specs.Prelude.{MatchBool, Option, Some, None}
 use Rattle.atomic_table.specs.Table.{Me, rest}
 use Rattle.qs_turn.specs.declared.protocol.PassView.{PassView}
 use Rattle.qs_turn.specs.declared.protocol.SeatView.{SeatView}
-use Rattle.qs_turn.specs.Protocol.{seat_view, having_seen, first_number, first_pass_count, first_base, first_seen, first_turns, SeesSlot}
+use Rattle.qs_turn.specs.Protocol.{seat_view, having_seen, first_base, first_seen, SeesSlot}
 
 pub first_of : {S : Type 0} (l m : List (ℕ × S)) (x : ℕ × S) → l ≡ x ∷ m → l ≡ x ∷ rest l
 first_of l m x e = e ∙ ap (λ (z : List _). x ∷ rest z) (sym e)
@@ -12,30 +12,15 @@ first_of l m x e = e ∙ ap (λ (z : List _). x ∷ rest z) (sym e)
 pub if_same : (P Q : Type 0) (a b : ℕ) → a ≡ b → MatchBool (eqb a b) P Q → P
 if_same P Q a b e m = subst (λ t. MatchBool t P Q) (eq-eqb a b e) m
 
-pub if_other : (P Q : Type 0) (a b : ℕ) → a ≢ b → MatchBool (eqb a b) P Q → Q
-if_other P Q a b e m = subst (λ t. MatchBool t P Q) (ne_eqb a b e) m
-
--- a pass that has seen more has the same number, count, base and turns
+-- what stays where the first pass has seen more
 module _ {S E : Type 0} where
   pub having_seen-length : (h : List E) (ks : List (PassView S E)) → length (having_seen h ks) ≡ length ks
   having_seen-length h [] = refl
   having_seen-length h (k ∷ ks) = refl
 
-  pub having_seen-number : (h : List E) (ks : List (PassView S E)) → first_number (having_seen h ks) ≡ first_number ks
-  having_seen-number h [] = refl
-  having_seen-number h (k ∷ ks) = refl
-
-  pub having_seen-pass_count : (h : List E) (ks : List (PassView S E)) → first_pass_count (having_seen h ks) ≡ first_pass_count ks
-  having_seen-pass_count h [] = refl
-  having_seen-pass_count h (k ∷ ks) = refl
-
   pub having_seen-base : {C : Type 0} (base : S → C) (h : List E) (ks : List (PassView S E)) → first_base base (having_seen h ks) ≡ first_base base ks
   having_seen-base base h [] = refl
   having_seen-base base h (k ∷ ks) = refl
-
-  pub having_seen-turns : (h : List E) (ks : List (PassView S E)) → first_turns (having_seen h ks) ≡ first_turns ks
-  having_seen-turns h [] = refl
-  having_seen-turns h (k ∷ ks) = refl
 
   pub having_seen-seen : (h : List E) (ks : List (PassView S E)) → length ks ≡ 1 → first_seen (having_seen h ks) ≡ h
   having_seen-seen h [] one = absurd (omega arith)

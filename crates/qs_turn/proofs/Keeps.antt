@@ -283,18 +283,18 @@ module _ {S C E : Type 0} (base : S → C) (history_of : S → List E) (pass_of 
   right_longer h e n names made [] apart right = tt
   right_longer h e n names made (k ∷ ks) apart right = let not = not_among n k ks apart in let old = right.0.begun in
       let Other : E → Type 0 = λ d. IsOtherPass passes k.number (pass_of d) in (
-      record {
-        numbered = right.0.numbered;
-        counted = right.0.counted;
-        based = right.0.based;
-        begun = (
-          old.0 ++ e ∷ [],
-          ap (λ (l : List E). l ++ e ∷ []) old.1 ∙ append_assoc k.seen old.0 (e ∷ []),
-          All-append Other old.0 (e ∷ []) old.2 (All-cons Other e [] ((λ same. not.0 (sym same ∙ names)), omega arith) (All-nil _)),
-        );
-      },
-      right_longer h e n names made ks not.1 right.1,
-    )
+        record {
+          numbered = right.0.numbered;
+          counted = right.0.counted;
+          based = right.0.based;
+          begun = (
+            old.0 ++ e ∷ [],
+            ap (λ (l : List E). l ++ e ∷ []) old.1 ∙ append_assoc k.seen old.0 (e ∷ []),
+            All-append Other old.0 (e ∷ []) old.2 (All-cons Other e [] ((λ same. not.0 (sym same ∙ names)), omega arith) (All-nil _)),
+          );
+        },
+        right_longer h e n names made ks not.1 right.1,
+      )
 
   enter_one_keeps : (slots id k : ℕ) (known : PassView S E) (x : S) (c : List (ℕ × std.Option S)) (e : E) → history_of x ≡ known.seen ++ e ∷ [] → pass_of e ≡ known.number → length (history_of x) < 2 ^ 64 - 1
       → Allows Rule slots id (seat_view (known ∷ []) (Served k), c) 2 (λ n. (n + 1) % 2 ^ 64) (λ n m. Path Seat m (seat_view (pass_view known.number known.pass_count known.origin (history_of x) known.turns ∷ []) (Served k), c))

@@ -7,7 +7,8 @@ IsOtherPass passes number other = (other ≢ number) × (other < passes)
 
 -- The history begins with what the pass of this number has seen, and what follows was entered by other passes.
 abbrev pub ContinuedByOthers : {E : Type 0} → (E → ℕ) → ℕ → ℕ → List E → List E → Type 0
-ContinuedByOthers pass_of passes number seen history = (later : List _) × (history ≡ seen ++ later) × All (λ e. IsOtherPass passes number (pass_of e)) later
+ContinuedByOthers pass_of passes number seen history =
+    (later : List _) × (history ≡ seen ++ later) × All (λ e. IsOtherPass passes number (pass_of e)) later
 
 -- A history, followed by an entry where one is given.
 abbrev pub followed_by : {E : Type 0} → List E → Option E → List E

@@ -1,8 +1,10 @@
--- The rule of the turns: what holds of the three words, of the slot and of what the seats know, whenever no step is under way. Then what each step tells the seat that takes it.
+-- The rule of the turns: what holds of the three words, of the slot and of what the seats know, whenever no step is
+-- under way. Then what each step tells the seat that takes it.
 --
--- The table of a `Turns` has the words of a ticket lock with a history. The ticket word is the next ticket, the serving word is the ticket whose turn it is, and the history word counts the entries that
--- turns have added. Tickets are counted modulo 2^64. The one slot has the value while nobody's turn is on. A seat is what a thread steps with; it stands for one pass, for several before they are dealt
--- and as they come back, or for none once another seat has taken it in.
+-- The table of a `Turns` has the words of a ticket lock with a history. The ticket word is the next ticket, the serving
+-- word is the ticket whose turn it is, and the history word counts the entries that turns have added. Tickets are
+-- counted modulo 2^64. The one slot has the value while no pass holds a turn. A seat is what a thread steps with. It
+-- stands for one pass; for several before they are dealt and as they come back; for none once another seat took it in.
 use Rattle.std.specs.Prelude.{◌≡◌, ◌==◌, ℕ, zero, suc, ◌+◌, ◌%◌, ◌^◌, ◌<◌, ◌≤◌, ◌⊎◌, if◌then◌else◌, List, [], ◌∷◌, ◌++◌, length, Option, Some, None, All, MatchBool}
 use Rattle.std.specs.Option.{option_map}
 use mathlib.Core.Option as opt
@@ -125,7 +127,8 @@ module _ {S E : Type 0} where
   times_in number v = count_number number v.known
 
 module _ {S C E : Type 0} (base : S → C) (pass_of : E → ℕ) (one_base : C) (passes : ℕ) (history : List E) where
-  -- What a pass knows is so. Its number is below that of the passes made, and it knows how many those are. It knows the one base. It has seen a beginning of the one history, which has each entry of its own.
+  -- What a pass knows is so. Its number is below that of the passes made, and it knows how many those are. It knows
+  -- the one base. It has seen a beginning of the one history, and each entry behind that names another pass.
   pub record IsRight (k : PassView S E) : Type 0 where
     pub numbered : k.number < passes
     pub counted : k.pass_count ≡ passes
@@ -145,7 +148,8 @@ abbrev pub IsOut : {S : Type 0} → List (opt.Option (Option S)) → Type 0
 IsOut homes = homes ≡ opt.none ∷ []
 
 module _ {S E : Type 0} (drawn served : ℕ) (history : List E) (homes : List (opt.Option (Option S))) where
-  -- A seat that waits stands for one pass, and its ticket is one of those out. A seat that is served stands for one pass, has the ticket that the serving word says, and has seen the one history whole; the slot is out.
+  -- A seat that waits stands for one pass, and its ticket is one of those out. A seat that is served stands for one
+  -- pass, has the ticket that the serving word says, and has seen the one history whole; the slot is out.
   abbrev pub StageFits : Stage → List (PassView S E) → Type 0
   StageFits Idle known = Unit {0}
   StageFits (Waiting k) known = (served ≤ k) × (k < drawn) × (length known ≡ 1)
@@ -154,7 +158,9 @@ module _ {S E : Type 0} (drawn served : ℕ) (history : List E) (homes : List (o
 module _ {S C E : Type 0} (base : S → C) (history_of : S → List E) (pass_of : E → ℕ) (one_base : C) (opened : List E) (passes : ℕ) where
   -- The value is at home, has the one base and stands for the one history; or it is out, and some seat is served.
   abbrev pub IsPlaced : List E → List (opt.Option (Option S)) → List (SeatView S E) → Type 0
-  IsPlaced history homes views = ((x : S) × IsHome homes x × (history_of x ≡ history) × (base x ≡ one_base)) ⊎ (IsOut homes × ((seat : ℕ) × (v : SeatView S E) × (k : ℕ) × (get_elem? views seat ≡ opt.some v) × (v.stage ≡ Served k)))
+  IsPlaced history homes views =
+      ((x : S) × IsHome homes x × (history_of x ≡ history) × (base x ≡ one_base))
+      ⊎ (IsOut homes × ((seat : ℕ) × (v : SeatView S E) × (k : ℕ) × (get_elem? views seat ≡ opt.some v) × (v.stage ≡ Served k)))
 
   -- The rule. `opened` is the history of the opening, and `passes` is how many passes were made.
   pub record TurnRule (s : State (Option S) (SeatView S E)) : Type 0 where
@@ -165,7 +171,8 @@ module _ {S C E : Type 0} (base : S → C) (history_of : S → List E) (pass_of 
     pub entered : ℕ
     -- the ticket word, the serving word and the history word
     pub words_are : s.words ≡ drawn % 2 ^ 64 ∷ served % 2 ^ 64 ∷ entered ∷ []
-    -- the one history is that of the opening, followed by as many entries as the history word says; each of these names a pass that was made
+    -- the one history is that of the opening, followed by as many entries as the history word says; each of these names
+    -- a pass that was made
     pub begins : (added : List E) × (history ≡ opened ++ added) × (length added ≡ entered) × All (λ e. pass_of e < passes) added
     -- where the value is
     pub placed : IsPlaced history s.homes s.views
@@ -176,7 +183,8 @@ module _ {S C E : Type 0} (base : S → C) (history_of : S → List E) (pass_of 
     -- each ticket from the serving number up to the ticket word, which is left out, is out with a seat
     pub each_out : (k : ℕ) → served ≤ k → k < drawn → (seat : ℕ) × (v : SeatView S E) × (get_elem? s.views seat ≡ opt.some v) × HasTicket v.stage k
     -- and with one seat only
-    pub one_each : (i j k : ℕ) (v w : SeatView S E) → get_elem? s.views i ≡ opt.some v → get_elem? s.views j ≡ opt.some w → HasTicket v.stage k → HasTicket w.stage k → i ≡ j
+    pub one_each : (i j k : ℕ) (v w : SeatView S E) → get_elem? s.views i ≡ opt.some v → get_elem? s.views j ≡ opt.some w
+        → HasTicket v.stage k → HasTicket w.stage k → i ≡ j
     -- so many tickets are out
     pub count_out : served + total tickets_out s.views ≡ drawn
     -- the seats stand for all passes, whose numbers differ
@@ -195,7 +203,8 @@ module _ {S E : Type 0} where
   Draws step before found after = (k : ℕ) × (found ≡ k % 2 ^ 64) × (after ≡ (seat_view before.0.known (Waiting k), before.1))
 
   module _ {C : Type 0} (base : S → C) (history_of : S → List E) (pass_of : E → ℕ) where
-    -- The value was taken. It has the base that the pass knows and stands for the one history, which the pass has now seen whole, in one turn more. What is new in it was entered by other passes.
+    -- The value was taken. It has the base that the pass knows and stands for the one history, which the pass has now
+    -- seen whole, in one turn more. What is new in it was entered by other passes.
     pub record Takes (before : SeatState S E) (k : ℕ) (after : SeatState S E) : Type 0 where
       pub value : S
       pub slot : after.1 ≡ (0, Some value) ∷ before.1
@@ -207,7 +216,8 @@ module _ {S E : Type 0} where
       pub one_more : first_turns after.0.known ≡ first_turns before.0.known + 1
       pub whole : history_of value ≡ first_seen after.0.known
       pub based : first_base base after.0.known ≡ Some (base value)
-      pub others : ContinuedByOthers pass_of (first_pass_count before.0.known) (first_number before.0.known) (first_seen before.0.known) (first_seen after.0.known)
+      pub others : ContinuedByOthers pass_of (first_pass_count before.0.known) (first_number before.0.known)
+          (first_seen before.0.known) (first_seen after.0.known)
 
     -- Where the serving word says the ticket that the seat waits with, the value was taken; else nothing changed.
     abbrev pub Looks : Step (Option S) → SeatState S E → ℕ → SeatState S E → Type 0
@@ -215,7 +225,8 @@ module _ {S E : Type 0} where
 
   -- The pass has seen what the value stands for that lies in the slot taken.
   abbrev pub SeesSlot : (S → List E) → SeatState S E → SeatState S E → Type 0
-  SeesSlot history_of before after = (x : S) → before.1 ≡ (0, Some x) ∷ [] → after ≡ (seat_view (having_seen (history_of x) before.0.known) before.0.stage, before.1)
+  SeesSlot history_of before after = (x : S) → before.1 ≡ (0, Some x) ∷ []
+      → after ≡ (seat_view (having_seen (history_of x) before.0.known) before.0.stage, before.1)
 
   -- An entry was added to the one history. It stands in the value by now.
   abbrev pub Enters : (S → List E) → Step (Option S) → SeatState S E → ℕ → SeatState S E → Type 0

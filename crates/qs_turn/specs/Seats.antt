@@ -27,7 +27,8 @@ module _ {T E : Type 0} where
   abbrev pub IsServed : TurnSeat T E → Type 0
   IsServed seat = ((k : ℕ) × (seat.me.0.stage ≡ Served k)) × (seat.me.1 ≡ (0, None) ∷ [])
 
-  -- It has taken the value. The value has the base that its pass knows and stands for all that the pass has now seen, in one turn more. What is new was entered by other passes.
+  -- It has taken the value. The value has the base that its pass knows and stands for all that the pass has now seen,
+  -- in one turn more. What is new was entered by other passes.
   pub record HasTaken {C : Type 0} (base : T → C) (history_of : T → List E) (pass_of : E → ℕ) (old new : TurnSeat T E) (value : T) : Type 0 where
     pub served : IsServed new
     pub one : length new.me.0.known ≡ 1
@@ -37,9 +38,12 @@ module _ {T E : Type 0} where
     pub one_more : first_turns new.me.0.known ≡ first_turns old.me.0.known + 1
     pub whole : history_of value ≡ first_seen new.me.0.known
     pub based : first_base base new.me.0.known ≡ Some (base value)
-    pub others : ContinuedByOthers pass_of (first_pass_count old.me.0.known) (first_number old.me.0.known) (first_seen old.me.0.known) (first_seen new.me.0.known)
+    pub others : ContinuedByOthers pass_of (first_pass_count old.me.0.known) (first_number old.me.0.known)
+        (first_seen old.me.0.known) (first_seen new.me.0.known)
 
   -- The slot has a value again, which stands for what the pass has seen, followed by the entry where there is one. The entry names the pass.
   abbrev pub IsGivingBack : (T → List E) → (E → ℕ) → TurnSeat T E → Option E → Type 0
-  IsGivingBack history_of pass_of seat entry = (x : T) × (k : ℕ) × (seat.me.0.stage ≡ Served k) × (length seat.me.0.known ≡ 1) × (seat.me.1 ≡ (0, Some x) ∷ [])
-      × (history_of x ≡ followed_by (first_seen seat.me.0.known) entry) × IfSome entry (λ e. pass_of e ≡ first_number seat.me.0.known) × (length (history_of x) < 2 ^ 64 - 1)
+  IsGivingBack history_of pass_of seat entry = (x : T) × (k : ℕ)
+      × (seat.me.0.stage ≡ Served k) × (length seat.me.0.known ≡ 1) × (seat.me.1 ≡ (0, Some x) ∷ [])
+      × (history_of x ≡ followed_by (first_seen seat.me.0.known) entry)
+      × IfSome entry (λ e. pass_of e ≡ first_number seat.me.0.known) × (length (history_of x) < 2 ^ 64 - 1)

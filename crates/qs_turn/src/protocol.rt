@@ -1,7 +1,8 @@
 //! How turns go: what a seat knows, the rule of the table, and what each step tells.
 //!
-//! The kinds of atomic step are: draw a ticket (`Draw`), look at the serving word and, where it says the own ticket, take the value (`Look`), enter the history (`Enter`), give the value back and
-//! serve the next ticket (`Serve`), split a seat (`SplitFirst`), and join a seat (`JoinPasses`).
+//! The kinds of atomic step are: draw a ticket (`Draw`); look at the serving word, and take the value where it says the
+//! own ticket (`Look`); enter the history (`Enter`); give the value back, and serve the next ticket (`Serve`); split a
+//! seat (`SplitFirst`); join a seat (`JoinPasses`).
 ghost use Rattle.std.specs.Prelude.{ℕ, List};
 
 use crate::told::Told;
@@ -38,7 +39,7 @@ pub struct SeatView<T, E> {
     pub stage: Stage,
 }
 
-/// What the table is told once: the value that it is made with, and the number of passes. The value exists in proofs alone.
+/// What the table is told once, when it is made: the value, which this keeps in proofs alone, and the number of passes.
 #[derive(Drop)]
 pub struct Opening<T> {
     pub value: Snapshot<T>,

@@ -130,7 +130,10 @@ fn history_of_one_pass_grows_by_what_it_enters(rt: HostRuntime) -> Result<(), Fa
     assert!(rt; add_number(&rt, &turns, &mut pass));
     assert!(rt; add_number(&rt, &turns, &mut pass));
     passes.push_reserved(pass);
-    assert_eq!(rt; turns.close(passes).items.as_slice(), [7, 7, 0, 0, 0].as_slice());
+    assert_eq!(rt;
+        turns.close(passes).items.as_slice(),
+        [7, 7, 0, 0, 0].as_slice()
+    );
     Ok(())
 }
 

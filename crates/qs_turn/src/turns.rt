@@ -3,7 +3,9 @@ ghost use Rattle.std.specs.Prelude.{◌≡◌, ◌<◌, ◌≤◌, ◌+◌, ◌-
 ghost use Rattle.qs_turn.specs.Protocol.{first_number};
 
 use crate::Memory;
-use crate::protocol::{Draw, Enter, JoinPasses, Look, Opening, SeatView, Serve, SplitFirst, TicketRule};
+use crate::protocol::{
+    Draw, Enter, JoinPasses, Look, Opening, SeatView, Serve, SplitFirst, TicketRule,
+};
 use crate::told::Told;
 use atomic_table::{Seat, Table};
 use std::alloc::Global;
@@ -22,9 +24,10 @@ const HISTORY: usize = 2;
 // Its one slot, which has the value while no pass holds a turn.
 const VALUE: usize = 0;
 
-/// A value that passes take turns on, by tickets. Tickets are counted modulo 2^64; at most as many are out as there are passes, so the count has no end.
+/// A value that passes take turns on, by tickets. Tickets are counted modulo 2^64; at most as many are out as there are
+/// passes, so the last ticket is no end.
 ///
-/// It may be dropped with the value in it, where the value may be.
+/// Where the value may be dropped, the turns may be, with the value in them.
 #[derive(Drop)]
 pub struct Turns<T: Told> {
     table: Table<Option<T>, SeatView<T, T::Entry>, Opening<T>, TicketRule<T>, Global>,
@@ -33,9 +36,11 @@ pub struct Turns<T: Told> {
     ghost some_pass: { 0 < table.shared.key.passes },
 }
 
-/// The right to take turns on the value of one `Turns`. It knows its number, the base of the value and the history that it has seen; contracts see its number of turns too.
+/// The right to take turns on the value of one `Turns`. It knows its number, the base of the value and the history that
+/// it has seen. Contracts alone see its number of turns, which is 0 at the opening and rises with each `Turns::enter`.
 ///
-/// No call changes its number, the base or which turns it is of. Turns of which a pass is dropped can't be closed any more.
+/// No call changes its number, the base that it knows or which turns it is of. Once a pass is dropped, its turns can't
+/// be closed.
 pub struct Pass<T: Told> {
     number: u32,
     seat: Seat<Option<T>, SeatView<T, T::Entry>>,
@@ -61,7 +66,8 @@ impl<T: Told> Turns<T> {
     ghost use Rattle.qs_turn.specs.Seats.{IsSameSeat, IsIdle, IsWaiting, IsServed, HasTaken, IsGivingBack};
     ghost use Rattle.qs_turn.specs.Passes.{passes_of, IsPassOf, IsSamePass, HoldsNoTurn, HoldsTurn, KnowsBase, number_of, seen_of, turns_of, AreNewPasses};
 
-    /// Makes the value one that passes take turns on, and that many passes. They are numbered from 0 in order, know the value's base, have seen the value's history, and hold no turn.
+    /// The turns on a value, and their passes, as many as `passes` says. These are numbered from 0 in order, know the
+    /// value's base, have seen the value's history, have taken no turn and hold none.
     ///
     /// `Memory` comes where there was none for the table or the passes. The value is then dropped.
     pub fn open(alloc: Global, value: T, passes: u32) -> Result<(Turns<T>, Vec<Pass<T>>), Memory>
@@ -128,9 +134,11 @@ impl<T: Told> Turns<T> {
         }
     }
 
-    /// Waits until the pass has its turn, and hands out the value. It may wait, also forever: tickets are served in the order in which they were drawn, and each turn lasts until its `leave`.
+    /// Draws a ticket, waits until it is served, and hands out the value. It may wait, also forever: each turn lasts until
+    /// its `leave`, and no contract says that a ticket is ever served.
     ///
-    /// The pass has then seen all that the value stands for. What is new in it was entered by other passes.
+    /// The value has the base that the pass knows. The pass has then seen the whole history that the value stands for;
+    /// what is new in it was entered by other passes.
     pub fn enter<R: Wait>(&self, rt: &R, pass: &mut Pass<T>) -> Held<T>
         requires own { IsPassOf self.now pass.old }
         requires idle { HoldsNoTurn pass.old }
@@ -152,6 +160,7 @@ impl<T: Told> Turns<T> {
         unreachable!()
     }
 
+    // A ticket, modulo 2^64.
     fn draw(&self, seat: &mut Seat<Option<T>, SeatView<T, T::Entry>>) -> u64
         requires own { seat.old.table_id ≡ self.now.table.shared.table_id }
         requires idle { IsIdle seat.old × (length seat.old.me.0.known ≡ 1) }
@@ -162,6 +171,7 @@ impl<T: Told> Turns<T> {
         self.table.shared.fetch_add::<Draw>(seat, TICKET, 1)
     }
 
+    // Looks at the serving word once. Where it says this ticket, the value is taken.
     fn take_if_served(
         &self,
         seat: &mut Seat<Option<T>, SeatView<T, T::Entry>>,
@@ -182,10 +192,11 @@ impl<T: Told> Turns<T> {
         }
     }
 
-    /// Takes the value back, adds the entry to the history where one is given, and serves the next ticket. The pass has then seen the history to its end.
+    /// Takes the value back, adds the entry to the history where one is given, and serves the next ticket. The pass has
+    /// then seen the history to its end, and holds no turn.
     ///
-    /// The value has the base that it was handed out with. It stands for the history that it was handed out with, followed by the entry, which names this pass. That are fewer than
-    /// 18,446,744,073,709,551,615 entries.
+    /// The value is to have the base that it was handed out with. It is to stand for the history that it was handed out
+    /// with, followed by the entry, which names this pass: in all fewer than 2^64 - 1 entries.
     pub fn leave(&self, pass: &mut Pass<T>, held: Held<T>, entry: Option<T::Entry>)
         requires own { IsPassOf self.now pass.old }
         requires turn { HoldsTurn pass.old }
@@ -203,6 +214,7 @@ impl<T: Told> Turns<T> {
         self.give_back(&mut pass.seat, value, entry);
     }
 
+    // The value goes back into the slot, and the slot home, behind the entry.
     fn give_back(
         &self,
         seat: &mut Seat<Option<T>, SeatView<T, T::Entry>>,
@@ -224,8 +236,13 @@ impl<T: Told> Turns<T> {
         self.table.shared.fetch_add::<Serve>(seat, SERVING, 1);
     }
 
-    // Adds the entry to the history, where there is one. The value is in the slot by now, which is still out with the seat.
-    fn enter_history(&self, seat: &mut Seat<Option<T>, SeatView<T, T::Entry>>, entry: Option<T::Entry>)
+    // Adds the entry to the history, where there is one. The value lies in the slot by now, which is still out with the
+    // seat.
+    fn enter_history(
+        &self,
+        seat: &mut Seat<Option<T>, SeatView<T, T::Entry>>,
+        entry: Option<T::Entry>,
+    )
         requires own { seat.old.table_id ≡ self.now.table.shared.table_id }
         requires turn { IsGivingBack T.history T.pass_of seat.old entry }
         ensures own { IsSameSeat seat.old seat.new }
@@ -236,7 +253,8 @@ impl<T: Told> Turns<T> {
         }
     }
 
-    /// Gives the value back, once all passes that `open` gave are there and none holds a turn. The history that it stands for begins with what each pass has seen; what follows was entered by others.
+    /// Gives the value back, once all passes that `open` gave are there and none holds a turn. It has the base that the
+    /// passes know. Its history begins with what each pass has seen; what follows was entered by other passes.
     pub fn close(self, mut passes: Vec<Pass<T>>) -> T
         requires own { All (λ p. IsPassOf self p × HoldsNoTurn p) passes.items }
         requires all { vec_len passes ≡ passes_of self }
@@ -265,7 +283,7 @@ impl<T: Told> Turns<T> {
 impl<T: Told> Pass<T> {
     ghost use Rattle.qs_turn.specs.Passes.{number_of};
 
-    /// The number of the pass, from 0 to one less than the number of passes. Entries that it enters name it by this.
+    /// The number of the pass, which is below the number of passes. The entries that it enters name it by this.
     pub fn number(&self) -> u32
         ensures { result ≡ number_of self.now }
     {

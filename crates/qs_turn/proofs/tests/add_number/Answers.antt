@@ -1,4 +1,4 @@
-use Rattle.std.proofs.Common.{rules, ◌≡◌, ◌==◌, ◌++◌, ◌∷◌, [], ◌∙◌, ◌+◌, ap}
+use Rattle.std.proofs.Common.{rules, ◌==◌, ◌∙◌, ◌+◌, ap}
 use Rattle.std.specs.Prelude.{count_by}
 use Rattle.qs_turn.specs.Passes.{passes_of, number_of, seen_of}
 use Rattle.qs_turn.proofs.Counting.{entries_by_others, one_more_entry}
