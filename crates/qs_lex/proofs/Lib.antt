@@ -1,0 +1,17 @@
+pub mod Blanks
+pub mod Quotes
+pub mod Runs
+pub mod Numbers
+pub mod Choices
+pub mod Words
+pub mod Scanned
+pub mod Causes
+pub mod Standing
+pub mod Borders
+pub mod Columns
+pub mod Lexed
+pub mod Readings
+pub mod OpenParentheses
+pub mod Doubling
+pub mod Encodings
+pub mod Totality

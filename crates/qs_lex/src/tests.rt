@@ -1,0 +1,134 @@
+//! The tokens, faults, places and labels of small texts.
+
+ghost use Rattle.std.specs.Prelude.{◌≤◌, length};
+
+use crate::{Cause, Kind, LexEnd, Refusal, Token, Word, label_text, place, tokens, too_deep};
+use std::alloc::Global;
+use std::test::Fail;
+
+/// The refusal of a text, or `None` where it has tokens.
+fn refusal_of(alloc: Global, text: &str) -> Result<Option<Refusal>, Fail>
+    requires { length text.now ≤ 4194304 }
+{
+    match tokens(alloc, text) {
+        Ok(_) => Ok(None),
+        Err(LexEnd::Refused(refusal)) => Ok(Some(refusal)),
+        Err(LexEnd::Memory) => Err(Fail::new("no memory")),
+    }
+}
+
+#[test]
+fn a_text_is_refused_at_its_first_fault(rt: HostRuntime) -> Result<(), Fail> {
+    let rows = [
+        ("-SYSTEME- S.\nA = B.", 2, 3, Cause::BadCharacter),
+        ("-SYSTEME- S.\nA == G*.", 2, 6, Cause::BadVariable),
+        ("-SYSTEME- S.\nA == B -XX- .", 2, 8, Cause::BadWord),
+        ("É == \"ÉÉ\n\"", 1, 6, Cause::OpenQuote),
+        ("\"a\r\"", 1, 1, Cause::OpenQuote),
+        ("A \"\"\"", 1, 3, Cause::OpenQuote),
+        ("ÉÉ ÉÉ ?", 1, 7, Cause::BadCharacter),
+        ("# c\r\n\t*", 2, 2, Cause::BadCharacter),
+        ("-01-", 1, 1, Cause::BadWord),
+        ("-0-", 1, 1, Cause::BadWord),
+        ("-1000000000-", 1, 1, Cause::BadWord),
+        ("-Fin-", 1, 1, Cause::BadWord),
+        ("A*100", 1, 1, Cause::BadVariable),
+        ("A*07", 1, 1, Cause::BadVariable),
+        ("AB*", 1, 1, Cause::BadVariable),
+    ];
+    for (text, line, column, cause) in rows {
+        assert!(rt; text.len() <= 4_194_304);
+        let refused = Refusal {
+            line,
+            column,
+            cause,
+        };
+        assert_eq!(rt; refusal_of(rt.alloc(), text)?, Some(refused), "at {text}");
+    }
+    Ok(())
+}
+
+#[test]
+fn a_text_without_fault_has_tokens(rt: HostRuntime) -> Result<(), Fail> {
+    let rows = [
+        ("", 0),
+        ("# É \"\n\t\r ", 0),
+        ("A == B*9.", 4),
+        ("-999999999--1--FIN-", 3),
+        ("A*99B", 2),
+        ("\"\" \"#\"#\"", 2),
+        ("É'_1+(a,b)/.", 9),
+    ];
+    for (text, count) in rows {
+        assert!(rt; text.len() <= 4_194_304);
+        assert_eq!(rt; tokens(rt.alloc(), text)?.len(), count, "at {text}");
+    }
+    Ok(())
+}
+
+#[test]
+fn tokens_have_kinds_and_spans(rt: HostRuntime) -> Result<(), Fail> {
+    let wanted = [
+        (Kind::Quoted, 0, 6),
+        (Kind::Node(12), 11, 15),
+        (
+            Kind::Variable {
+                letter: b'Y',
+                number: 7,
+            },
+            16,
+            19,
+        ),
+        (Kind::Word(Word::Et), 20, 24),
+        (Kind::Bare, 24, 26),
+    ];
+    let found = tokens(rt.alloc(), "\"a\"\"b\" # c\n-12- Y*7 -ET-É")?;
+    assert_eq!(rt; found.len(), 5);
+    for (token, (kind, from, to)) in found.iter().zip(wanted) {
+        assert_eq!(rt; *token, Token { kind, from, to });
+    }
+    Ok(())
+}
+
+#[test]
+fn two_quotes_inside_a_label_stand_for_one(rt: HostRuntime) -> Result<(), Fail> {
+    let text = "\"a\"\"b\" É";
+    let found = tokens(rt.alloc(), text)?;
+    assert_eq!(rt; found.len(), 2);
+    let quoted = label_text(rt.alloc(), text, &found[0])?;
+    assert_eq!(rt; quoted.as_str(), "a\"b");
+    let bare = label_text(rt.alloc(), text, &found[1])?;
+    assert_eq!(rt; bare.as_str(), "É");
+    Ok(())
+}
+
+#[test]
+fn columns_count_characters(rt: HostRuntime) {
+    let rows = [
+        ("", 0, 1, 1),
+        ("a\tb", 2, 1, 3),
+        ("a\rb", 2, 1, 3),
+        ("a\r\nb", 3, 2, 1),
+        ("\nÉa", 3, 2, 2),
+        ("a\n", 2, 2, 1),
+    ];
+    for (text, byte, line, column) in rows {
+        assert!(rt; text.len() <= 4_194_304 && text.is_char_boundary(byte as usize));
+        assert_eq!(rt; place(text, byte), (line, column), "at {byte} of {text}");
+    }
+}
+
+#[test]
+fn a_thousand_and_one_open_are_too_deep(rt: HostRuntime) -> Result<(), Fail> {
+    let mut found = tokens(rt.alloc(), "))(")?;
+    for from in 3..1003 {
+        assert_eq!(rt; too_deep(&found), None);
+        found.push(Token {
+            kind: Kind::Opening,
+            from,
+            to: from + 1,
+        })?;
+    }
+    assert_eq!(rt; too_deep(&found), Some(1002));
+    Ok(())
+}
