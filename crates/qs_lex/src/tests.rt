@@ -1,6 +1,6 @@
 //! The tokens, faults, places and labels of small texts.
 
-ghost use Rattle.std.specs.Prelude.{◌≤◌, length};
+ghost use Rattle.std.specs.Prelude.{◌≡◌, ◌≤◌, ◌⊎◌, length};
 
 use crate::{Cause, Kind, LexEnd, Refusal, Token, Word, label_text, place, tokens, too_deep};
 use std::alloc::Global;
@@ -90,15 +90,27 @@ fn tokens_have_kinds_and_spans(rt: HostRuntime) -> Result<(), Fail> {
     Ok(())
 }
 
+/// The text of the label that is the one token of a text, or `None` where the tokens are others.
+fn only_label(alloc: Global, text: &str, kind: Kind) -> Result<Option<String>, Fail>
+    requires short { length text.now ≤ 4194304 }
+    requires label { (kind ≡ Kind.Bare) ⊎ (kind ≡ Kind.Quoted) }
+{
+    let found = tokens(alloc, text)?;
+    if found.len() == 1 && found[0].kind == kind {
+        Ok(Some(label_text(alloc, text, &found[0])?))
+    } else {
+        Ok(None)
+    }
+}
+
 #[test]
 fn two_quotes_inside_a_label_stand_for_one(rt: HostRuntime) -> Result<(), Fail> {
-    let text = "\"a\"\"b\" É";
-    let found = tokens(rt.alloc(), text)?;
-    assert_eq!(rt; found.len(), 2);
-    let quoted = label_text(rt.alloc(), text, &found[0])?;
-    assert_eq!(rt; quoted.as_str(), "a\"b");
-    let bare = label_text(rt.alloc(), text, &found[1])?;
-    assert_eq!(rt; bare.as_str(), "É");
+    let quoted = only_label(rt.alloc(), "# label\n\"a\"\"\"\"É\"", Kind::Quoted)?;
+    assert_eq!(rt; quoted.as_deref(), Some("a\"\"É"));
+    let bare = only_label(rt.alloc(), " É'A ", Kind::Bare)?;
+    assert_eq!(rt; bare.as_deref(), Some("É'A"));
+    let empty = only_label(rt.alloc(), "\"\"", Kind::Quoted)?;
+    assert_eq!(rt; empty.as_deref(), Some(""));
     Ok(())
 }
 
