@@ -1,0 +1,10 @@
+pub mod Values
+pub mod Substitutions
+pub mod Binding
+pub mod Listed
+pub mod Steps
+pub mod Fronts
+pub mod Variables
+pub mod Variants
+pub mod Calls
+pub mod Lengths

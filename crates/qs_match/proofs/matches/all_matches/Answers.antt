@@ -1,0 +1,17 @@
+use Rattle.qs_tree.specs.Cells.{trees_of}
+use Rattle.qs_pattern.specs.Patterns.{patterns}
+use Rattle.qs_pattern.specs.Instances.{IsMatch}
+use Rattle.qs_match.specs.Tasks.{Lists}
+use Rattle.qs_match.proofs.Variants.{tasks-Nothing, substitution-Nothing}
+use Rattle.qs_match.proofs.Variables.{found_matches}
+use Rattle.qs_match.proofs.matches.all_matches.Goals as goal
+
+found : (c : goal.In_ok-search) → Lists (IsMatch (patterns c.args.side.now) (trees_of c.args.trees.cells.now)) c.search.new.found.items
+found c =
+    found_matches (patterns c.args.side.now) (trees_of c.args.trees.cells.now) _ _ c.new-found.result.items c.search.new.found.items tasks-Nothing substitution-Nothing c.new-found.ensures.items c.in_ok-search.ensures
+
+pub returns-clause-sound : goal.returns-clause-sound
+returns-clause-sound c = (found c).sound
+
+pub returns-clause-all : goal.returns-clause-all
+returns-clause-all c = (found c).all

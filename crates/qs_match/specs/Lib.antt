@@ -1,0 +1,4 @@
+pub mod Order
+pub mod Tasks
+pub mod Remaining
+pub mod Bindings

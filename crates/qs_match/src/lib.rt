@@ -1,0 +1,16 @@
+//! All substitutions under which a list of patterns stands for a list of trees.
+#![tactic(auto)]
+
+mod bindings;
+mod class;
+pub mod laws;
+mod matches;
+mod remaining;
+mod search;
+
+pub use class::are_in_class;
+pub use matches::all_matches;
+pub use std::alloc::AllocError as Memory;
+
+#[cfg(test)]
+mod tests;

@@ -1,0 +1,39 @@
+//! All matches of a list of patterns.
+
+ghost use Rattle.std.specs.Prelude.{IfOk};
+ghost use Rattle.qs_tree.specs.Cells.{trees_of};
+ghost use Rattle.qs_tree.specs.Lists.{◌∈◌, Ascends};
+ghost use Rattle.qs_pattern.specs.Patterns.{patterns, AreInClass};
+ghost use Rattle.qs_pattern.specs.Substitutions.{Substitution};
+ghost use Rattle.qs_pattern.specs.Instances.{IsMatch};
+ghost use Rattle.qs_match.specs.Order.{LengthsBefore};
+
+use crate::bindings::Bindings;
+use crate::remaining::Remaining;
+use crate::search::search;
+use qs_pattern::{Pattern, Subst};
+use qs_tree::ForestRef;
+use std::alloc::{AllocError, Global};
+
+/// All substitutions of the side's variables under which it stands for the trees.
+pub fn all_matches(
+    alloc: Global,
+    side: &[Pattern],
+    trees: ForestRef<'_>,
+) -> Result<Vec<Subst>, AllocError>
+    requires in_class { AreInClass (patterns side.now) }
+    ensures sound { IfOk result (λ v. (s : Substitution) → s ∈ v.items → IsMatch (patterns side.now) (trees_of trees.entry.cells.now) s) }
+    ensures all { IfOk result (λ v. (s : Substitution) → IsMatch (patterns side.now) (trees_of trees.entry.cells.now) s → s ∈ v.items) }
+    ensures ascending { IfOk result (λ v. Ascends LengthsBefore v.items) }
+{
+    let mut found = Vec::new(alloc);
+    search(
+        alloc,
+        side,
+        trees,
+        &Remaining::Nothing,
+        &Bindings::Nothing,
+        &mut found,
+    )?;
+    Ok(found)
+}

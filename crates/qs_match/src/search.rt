@@ -1,0 +1,222 @@
+//! The search for matches, depth first over the cells of the patterns.
+
+ghost use Rattle.std.specs.Prelude.{◌≡◌, ◌++◌, ◌∷◌, [], IfOk, OnOk, MatchOption, IsTrue, ◌↔◌};
+ghost use Rattle.qs_tree.specs.Cells.{trees_of};
+ghost use Rattle.qs_pattern.specs.Patterns.{patterns, no_pattern, node_first, tree_var_first, forest_var_first};
+ghost use Rattle.qs_tree.specs.Lists.{◌∈◌, Ascends};
+ghost use Rattle.qs_pattern.specs.Substitutions.{Substitution, IsOfClass, IsSubstitution};
+ghost use Rattle.qs_pattern.specs.Instances.{IsMatch};
+ghost use Rattle.qs_pattern.specs.Patterns.{AreInClass};
+ghost use Rattle.qs_match.specs.Order.{LengthsBefore};
+ghost use Rattle.qs_match.specs.Tasks.{Appends, Tries, IsInClass};
+ghost use Rattle.qs_match.specs.Bindings.{value_of_ref, substitution_of};
+ghost use Rattle.qs_match.specs.Remaining.{tasks_of};
+
+use crate::bindings::{Bindings, ValueRef, are_equal, find, subst_of};
+use crate::remaining::Remaining;
+use qs_pattern::{Head, Pattern, Subst, Var};
+use qs_tree::{ForestRef, Split};
+use std::alloc::{AllocError, Global};
+
+// Appends each solution of the side at the trees and of all that remains to be matched.
+#[cycle(search)]
+pub fn search(
+    alloc: Global,
+    side: &[Pattern],
+    trees: ForestRef<'_>,
+    remaining: &Remaining<'_>,
+    bindings: &Bindings<'_>,
+    found: &mut Vec<Subst>,
+) -> Result<(), AllocError>
+    requires in_class { IsInClass ((patterns side.now, trees_of trees.cells.now) ∷ tasks_of remaining.now) }
+    requires substitution { IsSubstitution (substitution_of bindings.now) }
+    ensures { OnOk result (Appends ((patterns side.now, trees_of trees.entry.cells.now) ∷ tasks_of remaining.now) (substitution_of bindings.now) found.old.items found.new.items) }
+{
+    match side {
+        [] => search_remaining(alloc, trees, remaining, bindings, found),
+        [first, rest @ ..] => match first {
+            Pattern::Node { head, kids } => {
+                search_node(alloc, *head, kids, rest, trees, remaining, bindings, found)
+            }
+            Pattern::Tree(var) => search_tree(alloc, *var, rest, trees, remaining, bindings, found),
+            Pattern::Forest(var) => search_forest(
+                alloc, *var, rest, trees, remaining, bindings, found,
+            ),
+        },
+    }
+}
+
+// No pattern is left of this list.
+#[cycle(search)]
+fn search_remaining(
+    alloc: Global,
+    trees: ForestRef<'_>,
+    remaining: &Remaining<'_>,
+    bindings: &Bindings<'_>,
+    found: &mut Vec<Subst>,
+) -> Result<(), AllocError>
+    requires in_class { IsInClass (tasks_of remaining.now) }
+    requires substitution { IsSubstitution (substitution_of bindings.now) }
+    ensures { OnOk result (Appends ((no_pattern, trees_of trees.entry.cells.now) ∷ tasks_of remaining.now) (substitution_of bindings.now) found.old.items found.new.items) }
+{
+    if trees.first_rest().is_some() {
+        return Ok(());
+    }
+    match remaining {
+        Remaining::Nothing => {
+            found.push(subst_of(alloc, bindings)?)?;
+            Ok(())
+        }
+        Remaining::Then {
+            side,
+            trees,
+            remaining,
+        } => search(alloc, side, *trees, remaining, bindings, found),
+    }
+}
+
+// A node is the first pattern.
+#[cycle(search)]
+fn search_node(
+    alloc: Global,
+    head: Head,
+    kids: &[Pattern],
+    rest: &[Pattern],
+    trees: ForestRef<'_>,
+    remaining: &Remaining<'_>,
+    bindings: &Bindings<'_>,
+    found: &mut Vec<Subst>,
+) -> Result<(), AllocError>
+    requires in_class { IsInClass ((node_first head (patterns kids.now) (patterns rest.now), trees_of trees.cells.now) ∷ tasks_of remaining.now) }
+    requires substitution { IsSubstitution (substitution_of bindings.now) }
+    ensures { OnOk result (Appends ((node_first head (patterns kids.now) (patterns rest.now), trees_of trees.entry.cells.now) ∷ tasks_of remaining.now) (substitution_of bindings.now) found.old.items found.new.items) }
+{
+    let Some((tree, behind)) = trees.first_rest() else {
+        return Ok(());
+    };
+    let after = Remaining::Then {
+        side: &*rest,
+        trees: behind,
+        remaining: &*remaining,
+    };
+    match head {
+        Head::Label(label) => {
+            if label == tree.root() {
+                search(alloc, kids, tree.kids(), &after, bindings, found)
+            } else {
+                Ok(())
+            }
+        }
+        Head::Var(var) => search_with(
+            alloc,
+            var,
+            ValueRef::Label(tree.root()),
+            kids,
+            tree.kids(),
+            &after,
+            bindings,
+            found,
+        ),
+    }
+}
+
+// A tree variable is the first pattern.
+#[cycle(search)]
+fn search_tree(
+    alloc: Global,
+    var: Var,
+    rest: &[Pattern],
+    trees: ForestRef<'_>,
+    remaining: &Remaining<'_>,
+    bindings: &Bindings<'_>,
+    found: &mut Vec<Subst>,
+) -> Result<(), AllocError>
+    requires in_class { IsInClass ((tree_var_first var (patterns rest.now), trees_of trees.cells.now) ∷ tasks_of remaining.now) }
+    requires substitution { IsSubstitution (substitution_of bindings.now) }
+    ensures { OnOk result (Appends ((tree_var_first var (patterns rest.now), trees_of trees.entry.cells.now) ∷ tasks_of remaining.now) (substitution_of bindings.now) found.old.items found.new.items) }
+{
+    let Some((tree, behind)) = trees.first_rest() else {
+        return Ok(());
+    };
+    search_with(
+        alloc,
+        var,
+        ValueRef::Tree(tree),
+        rest,
+        behind,
+        remaining,
+        bindings,
+        found,
+    )
+}
+
+// A forest variable is the first pattern: it takes each front of the trees, shortest first.
+#[cycle(search)]
+fn search_forest(
+    alloc: Global,
+    var: Var,
+    rest: &[Pattern],
+    trees: ForestRef<'_>,
+    remaining: &Remaining<'_>,
+    bindings: &Bindings<'_>,
+    found: &mut Vec<Subst>,
+) -> Result<(), AllocError>
+    requires in_class { IsInClass ((forest_var_first var (patterns rest.now), trees_of trees.cells.now) ∷ tasks_of remaining.now) }
+    requires substitution { IsSubstitution (substitution_of bindings.now) }
+    ensures { OnOk result (Appends ((forest_var_first var (patterns rest.now), trees_of trees.entry.cells.now) ∷ tasks_of remaining.now) (substitution_of bindings.now) found.old.items found.new.items) }
+{
+    let mut split = Split::start(trees);
+    'fronts: loop {
+        let front = ValueRef::Forest(split.front());
+        search_with(
+            alloc,
+            var,
+            front,
+            rest,
+            split.behind(),
+            remaining,
+            bindings,
+            found,
+        )?;
+        let Some(longer) = split.next() else {
+            return Ok(());
+        };
+        split = longer;
+    }
+}
+
+// The side is matched where the variable has this value or none yet.
+#[cycle(search)]
+fn search_with(
+    alloc: Global,
+    var: Var,
+    value: ValueRef<'_>,
+    side: &[Pattern],
+    trees: ForestRef<'_>,
+    remaining: &Remaining<'_>,
+    bindings: &Bindings<'_>,
+    found: &mut Vec<Subst>,
+) -> Result<(), AllocError>
+    requires in_class { IsInClass ((patterns side.now, trees_of trees.cells.now) ∷ tasks_of remaining.now) }
+    requires substitution { IsSubstitution (substitution_of bindings.now) }
+    requires class { IsOfClass (var, value_of_ref value) }
+    ensures { OnOk result (Tries ((patterns side.now, trees_of trees.entry.cells.now) ∷ tasks_of remaining.now) (substitution_of bindings.now) var (value_of_ref value.entry) found.old.items found.new.items) }
+{
+    match find(bindings, var) {
+        Some(known) => {
+            if are_equal(known, value) {
+                search(alloc, side, trees, remaining, bindings, found)
+            } else {
+                Ok(())
+            }
+        }
+        None => {
+            let more = Bindings::More {
+                var,
+                value,
+                earlier: &*bindings,
+            };
+            search(alloc, side, trees, remaining, &more, found)
+        }
+    }
+}
