@@ -1,10 +1,10 @@
 -- The steps of the search, over the lists that its contracts name.
-use Rattle.std.proofs.Common.{Bool, true, false, inl, inr, nat_eq, ◌≡◌, ◌+◌, ◌-◌, ◌≤◌, List, [], ◌∷◌, ◌++◌, length, take, drop, get_or, Option, Some, None, Result, Ok, Err, OnOk, IsNone, refl, sym, ap, ◌∙◌, subst, arith, append_assoc, append-nil, length-append, Vec, Global}
+use Rattle.std.proofs.Common.{Bool, true, false, inl, inr, ℕ, nat_eq, ◌≡◌, ◌+◌, ◌-◌, ◌<◌, ◌≤◌, List, [], ◌∷◌, ◌++◌, length, take, drop, get_or, Option, Some, None, Result, Ok, Err, OnOk, IsNone, refl, sym, ap, ◌∙◌, subst, arith, append_assoc, append-nil, length-append, Vec, Global}
 use Rattle.std.specs.Option.{is_some}
 use Rattle.std.proofs.lemmas.Grind.{common_steps}
 use Rattle.std.proofs.lemmas.Bool.{eqb-true}
 use Rattle.qs_tree.specs.declared.cell.Label.{Label}
-use Rattle.qs_tree.specs.Trees.{Tree, kids}
+use Rattle.qs_tree.specs.Trees.{Tree, node, kids}
 use Rattle.qs_pattern.specs.declared.variable.Var.{Var}
 use Rattle.qs_pattern.specs.declared.pattern.Head.{Head}
 use Rattle.qs_pattern.specs.declared.pattern.Head.TheVariants as head
@@ -15,27 +15,21 @@ use Rattle.qs_pattern.proofs.PatternLemmas.{pattern-Node}
 use Rattle.qs_pattern.specs.Substitutions.{Substitution}
 use Rattle.qs_pattern.specs.Patterns.{IsHeadInClass}
 use Rattle.qs_pattern.specs.Variables.{IsTreeVar, IsForestVar}
-use Rattle.qs_match.specs.Tasks.{Tasks, Appends, Binds, Clashes, Tries, AreOfClass}
-use Rattle.qs_match.proofs.Steps.{step_end, step_tree, stop_tree, stop_no_tree, step_node, step_head, stop_head}
-use Rattle.qs_match.proofs.Listed.{appends_one}
-use Rattle.qs_match.proofs.Fronts.{Splits, SplitsAt, splits_start, splits_end, splits_more, splits_none}
+use Rattle.qs_match.specs.Tasks.{Tasks, task_variables, head_before, variables_before, Extends, Solves, Appends, Binds, Clashes, Tries, AreOfClass, TakesFront}
+use Rattle.qs_match.proofs.Steps.{node_parts, step_end, step_tree, stop_tree, stop_no_tree, step_node, step_head, stop_head}
+use Rattle.qs_match.proofs.Listed.{appends_one, appends_none}
+use Rattle.qs_match.proofs.Binding.{has_value, binding, bind_to}
+use Rattle.qs_match.proofs.Covered.{fits}
+use Rattle.qs_match.proofs.Splits.{passes_joins, passes_length, whole_front}
+use Rattle.qs_match.specs.Counts.{CanFit, CanBeRoot}
+use Rattle.qs_tree.specs.Splits.{PassesTree}
+use Rattle.qs_pattern.specs.Instances.{inst, label_of}
+use Rattle.qs_pattern.specs.Patterns.{AreInClass}
+use Rattle.qs_match.proofs.Fronts.{Splits, SplitsAt, TriedAt, splits_start, splits_end, splits_no, splits_more, splits_none, takes_within}
 
 pub on_ok : {A E : Type 0} {P Q : Type 0} (r : Result A E) → (P → Q) → OnOk r P → OnOk r Q
 on_ok (Ok x) f p = f p
 on_ok (Err e) f p = tt
-
-rest_is : (q : Pattern) (qs : List Pattern) → take (length (q ∷ qs) - 1) (drop 1 (q ∷ qs)) ≡ qs
-rest_is q qs = grind (arith, common_steps)
-
--- the first pattern is a node
-pub side_node : (ps : List Pattern) (p : Pattern) (h : Head) (ks : Vec Pattern Global) (below : List Pattern) → 1 ≤ length ps → p ≡ get_or ps 0 p → p ≡ Node h ks → below ≡ ks.items
-    → patterns ps ≡ node_first h (patterns below) (patterns (take (length ps - 1) (drop 1 ps)))
-side_node [] p h ks below some is node e = absurd (omega arith)
-side_node (q ∷ qs) p h ks below some is node e =
-    let first : q ≡ Node h ks = sym is ∙ node in
-    ap (λ (r : Pattern). pattern_before r (patterns qs)) first ∙ pattern-Node h ks (patterns qs)
-    ∙ ap (λ (ps : List Pattern). node_first h (patterns ps) (patterns qs)) (sym e)
-    ∙ ap (λ (ps : List Pattern). node_first h (patterns below) (patterns ps)) (sym (rest_is q qs))
 
 module _ (W : Tasks) (s : Substitution) (old new : List Substitution) where
   pub tree_some : (v : Var) (rest : Patterns) → IsTreeVar v → (t : Substitution) (u x : Tree) (us ts : List Tree) → ts ≡ u ∷ us → x ≡ u → Binds s v (value.Tree x) t
@@ -79,30 +73,37 @@ pub is_none : {A : Type 0} (o : Option A) (b : Bool) → b ≡ false → b ≡ i
 is_none None b e f = refl
 is_none (Some x) b e f = absurd cc
 
-module _ (W : Tasks) (s : Substitution) (v : Var) (rest : Patterns) (c : IsForestVar v) (ts : List Tree) (old : List Substitution) where
-  pub front_start : (front : List Tree) → front ≡ [] → SplitsAt W s v rest ts front ts old old
-  front_start front e = rw e (record { joins = refl; done = splits_start W s v rest c ts old })
+-- What a node is refused by at once.
+kids_extend : (h : Head) (vs : List Var) (s r : Substitution) → Extends (head_before h vs) s r → (t : Substitution) × Extends vs t r
+kids_extend (head.Label l) vs s r e = (s, e)
+kids_extend (head.Var v) vs s r e =
+    let h = has_value e in
+    let b = binding h.0 e h.1 in
+    (b.0, bind_to b.1 e h.1)
 
-  module _ (front behind : List Tree) (mid new : List Substitution) where
-    -- this front is done too
-    pub front_some : (t : Substitution) (x : List Tree) → x ≡ front → Binds s v (value.Forest x) t → SplitsAt W s v rest ts front behind old mid → Appends ((rest, behind) ∷ W) t mid new
-        → Splits ((forest_var_first v rest, ts) ∷ W) s v (length front + 1) old new
-    front_some t x same b a m = splits_more W s v rest c ts front behind a.joins (length front) refl old mid new t (subst (λ (y : List Tree). Binds s v (value.Forest y) t) same b) a.done m
+root_is : (h : Head) (r : Substitution) (u : Tree) → label_of r h ≡ u.root → CanBeRoot h u.root
+root_is (head.Label l) r u e = e
+root_is (head.Var v) r u e = tt
 
-    pub front_clash : (x : List Tree) → x ≡ front → Clashes s v (value.Forest x) → SplitsAt W s v rest ts front behind old mid → Splits ((forest_var_first v rest, ts) ∷ W) s v (length front + 1) old mid
-    front_clash x same b a = splits_none W s v rest c ts front behind a.joins (length front) refl old mid new (subst (λ (y : List Tree). Clashes s v (value.Forest y)) same b) a.done
+module _ (W : Tasks) (s : Substitution) (old : List Substitution) (h : Head) (ks rest : Patterns) (u : Tree) (us ts : List Tree) (e : ts ≡ u ∷ us) where
+  node_solved : (r : Substitution) → Solves ((node_first h ks rest, ts) ∷ W) s r → node (label_of r h) (inst r ks) ≡ u
+  node_solved r z = let f : node (label_of r h) (inst r ks) ∷ inst r rest ≡ u ∷ us = z.fits.0 ∙ e in cc
 
-  pub front_more : (front behind longer us : List Tree) (u : Tree) (new : List Substitution) → front ++ behind ≡ ts → behind ≡ u ∷ us → longer ≡ front ++ u ∷ [] → Splits ((forest_var_first v rest, ts) ∷ W) s v (length front + 1) old new
-      → SplitsAt W s v rest ts longer us old new
-  front_more front behind longer us u new j e l a =
-      let n : length front + 1 ≡ length (front ++ u ∷ []) = sym (length-append front (u ∷ [])) in
-      let d : Splits ((forest_var_first v rest, ts) ∷ W) s v (length (front ++ u ∷ [])) old new = subst (λ k. Splits ((forest_var_first v rest, ts) ∷ W) s v k old new) n a in
-      rw l (record { joins = append_assoc front (u ∷ []) us ∙ ap (λ (xs : List Tree). front ++ xs) (sym e) ∙ j; done = d })
+  pub root_none : (x : Label) → x ≡ u.root → (CanBeRoot h x → ⊥) → Appends ((node_first h ks rest, ts) ∷ W) s old old
+  root_none x same never =
+      appends_none ((node_first h ks rest, ts) ∷ W) s old
+      (λ r z. never (subst (CanBeRoot h) (sym same) (root_is h r u (node_parts (label_of r h) (inst r ks) u (node_solved r z)).0)))
 
-  pub front_last : (front behind : List Tree) (new : List Substitution) → front ++ behind ≡ ts → behind ≡ [] → Splits ((forest_var_first v rest, ts) ∷ W) s v (length front + 1) old new → Appends ((forest_var_first v rest, ts) ∷ W) s old new
-  front_last front behind new j e a =
-      let whole : ts ≡ front = sym j ∙ ap (λ (xs : List Tree). front ++ xs) e ∙ append-nil front in
-      splits_end W s v rest c ts (length front + 1) old new (rw whole (omega arith)) a
+  pub kids_none : (below : List Tree) → below ≡ kids u → AreInClass ks → (CanFit ks (length below) → ⊥) → Appends ((node_first h ks rest, ts) ∷ W) s old old
+  kids_none below same c never =
+      appends_none ((node_first h ks rest, ts) ∷ W) s old
+      (λ r z.
+      let x = kids_extend h (variables_before ks (variables_before rest (task_variables W))) s r z.extends in
+      let k : inst r ks ≡ below = (node_parts (label_of r h) (inst r ks) u (node_solved r z)).1 ∙ sym same in
+      never (subst (CanFit ks) (ap length k) (fits ks (variables_before rest (task_variables W)) x.0 r c x.1)))
+
+pub label_is : (h : Head) (l x : Label) → h ≡ head.Label l → CanBeRoot h x → l ≡ x
+label_is h l x e c = subst (λ g. CanBeRoot g x) e c
 
 -- What is tried with a value of the variable.
 pub tree_tries : (W : Tasks) (s : Substitution) (v : Var) (rest : Patterns) → IsTreeVar v → (u : Tree) (us ts : List Tree) (old new : List Substitution) → ts ≡ u ∷ us → Tries ((rest, us) ∷ W) s v (value.Tree u) old new
@@ -115,11 +116,46 @@ pub head_tries : (W : Tasks) (s : Substitution) (h : Head) (v : Var) (ks rest : 
 head_tries W s h v ks rest u x us ts below N old new hv c e k same n (inl a) = head_some W s old new h v ks rest a.0 u x us ts below N hv c e k same n a.1 a.2
 head_tries W s h v ks rest u x us ts below N old new hv c e k same n (inr a) = rw a.1 (head_clash W s old new h v ks rest u x us ts hv c e same a.0)
 
-pub front_tries : (W : Tasks) (s : Substitution) (v : Var) (rest : Patterns) → IsForestVar v → (ts front behind x y : List Tree) (old mid new : List Substitution) → x ≡ front → y ≡ behind → SplitsAt W s v rest ts front behind old mid
-    → Tries ((rest, y) ∷ W) s v (value.Forest x) mid new → Splits ((forest_var_first v rest, ts) ∷ W) s v (length front + 1) old new
-front_tries W s v rest c ts front behind x y old mid new xe ye a (inl b) =
-    front_some W s v rest c ts old front behind mid new b.0 x xe b.1 a (subst (λ (us : List Tree). Appends ((rest, us) ∷ W) b.0 mid new) ye b.2)
-front_tries W s v rest c ts front behind x y old mid new xe ye a (inr b) = rw b.1 (front_clash W s v rest c ts old front behind mid new x xe b.0 a)
+-- The fronts that a forest variable takes.
+module _ {W : Tasks} {s : Substitution} {v : Var} {rest : Patterns} {ts front behind : List Tree} {old new : List Substitution} where
+  pub front_tries : IsForestVar v → {mid : List Substitution} → SplitsAt W s v rest ts front behind old mid → (x y : List Tree) → x ≡ front → y ≡ behind → Tries ((rest, y) ∷ W) s v (value.Forest x) mid new
+      → TriedAt W s v rest ts front behind old new
+  front_tries c {mid} a x y xe ye (inl b) = record {
+    joins = a.joins;
+    done = splits_more W s v rest c ts front behind a.joins (length front) refl old mid new b.0 (subst (λ (us : List Tree). Binds s v (value.Forest us) b.0) xe b.1) a.done
+        (subst (λ (us : List Tree). Appends ((rest, us) ∷ W) b.0 mid new) ye b.2);
+  }
+  front_tries c {mid} a x y xe ye (inr b) =
+      let same : new ≡ mid = b.1 in
+      record {
+        joins = a.joins;
+        done = rw same (splits_none W s v rest c ts front behind a.joins (length front) refl old mid new (subst (λ (us : List Tree). Clashes s v (value.Forest us)) xe b.0) a.done);
+      }
 
-pub front_begin : (W : Tasks) (s : Substitution) (v : Var) (rest : Patterns) → IsForestVar v → (ts front behind : List Tree) (old : List Substitution) → front ≡ [] → behind ≡ ts → SplitsAt W s v rest ts front behind old old
-front_begin W s v rest c ts front behind old e f = rw f (front_start W s v rest c ts old front e)
+  -- no longer front can be the variable's
+  pub front_enough : IsForestVar v → TriedAt W s v rest ts front behind old new → ((r : Substitution) (a : List Tree) → TakesFront s v rest ts r a → length a ≤ length front)
+      → Appends ((forest_var_first v rest, ts) ∷ W) s old new
+  front_enough c a h = splits_end W s v rest c ts (length front + 1) old new (λ r b t. let l = h r b t in omega arith) a.done
+
+  -- no tree is behind this front
+  pub front_last : IsForestVar v → TriedAt W s v rest ts front behind old new → behind ≡ [] → Appends ((forest_var_first v rest, ts) ∷ W) s old new
+  front_last c a e =
+      let n : length front ≡ length ts = ap length (whole_front front behind ts a.joins e) in
+      front_enough c a (λ r b t. let l = takes_within W s v rest c ts r b t in omega arith)
+
+  -- one tree more goes to the front
+  pub front_more : TriedAt W s v rest ts front behind old new → {longer shorter : List Tree} → PassesTree front behind longer shorter → SplitsAt W s v rest ts longer shorter old new
+  front_more a p = record {
+    joins = passes_joins ts p a.joins;
+    done = subst (λ k. Splits ((forest_var_first v rest, ts) ∷ W) s v k old new) (sym (passes_length p)) a.done;
+  }
+
+module _ (W : Tasks) (s : Substitution) (v : Var) (rest : Patterns) (c : IsForestVar v) (ts : List Tree) (old : List Substitution) (least most : ℕ)
+    (within : (r : Substitution) (a : List Tree) → TakesFront s v rest ts r a → (least ≤ length a) × (length a ≤ most)) where
+  -- no shorter front can be the variable's
+  pub front_begin : (front behind : List Tree) → front ++ behind ≡ ts → length front ≡ least → SplitsAt W s v rest ts front behind old old
+  front_begin front behind e l = record { joins = e; done = splits_start W s v rest c ts (length front) (λ r a t. let m = (within r a t).0 in omega arith) old }
+
+  -- there are fewer trees
+  pub front_short : length ts < least → Appends ((forest_var_first v rest, ts) ∷ W) s old old
+  front_short l = splits_no W s v rest c ts old (λ r a t. let m = (within r a t).0 in let n = takes_within W s v rest c ts r a t in absurd (omega arith))

@@ -17,10 +17,10 @@ use Rattle.qs_pattern.specs.Substitutions.{value_of}
 use Rattle.qs_pattern.specs.Substitutions.{Substitution, forest_lengths, forest_length}
 use Rattle.qs_pattern.specs.Variables.{IsForestVar}
 use Rattle.qs_match.specs.Order.{LengthsBefore}
-use Rattle.qs_match.specs.Tasks.{Tasks, Extends, Solves, Lists, Appends, Binds, Clashes}
+use Rattle.qs_match.specs.Tasks.{Tasks, task_variables, Extends, Solves, Lists, Appends, Binds, Clashes, TakesFront}
 use Rattle.qs_match.proofs.Values.{known_value, new_to}
 use Rattle.qs_match.proofs.Binding.{bind_to, bind_from, clash_never, forest_value}
-use Rattle.qs_match.proofs.Listed.{lists_both, lists_same, lists_none}
+use Rattle.qs_match.proofs.Listed.{lists_both, lists_same, lists_none, appends_none}
 
 -- lists that first differ at one place are in the order of that place
 before_at : (p : List ℕ) (m n : ℕ) (a b : List ℕ) → m < n → slice_cmp nat_cmp (p ++ m ∷ a) (p ++ n ∷ b) ≡ Less
@@ -78,20 +78,35 @@ module _ (W : Tasks) (s : Substitution) (v : Var) (rest : Patterns) (c : IsFores
   parts : (r : Substitution) (a : List Tree) → Solves ((forest_var_first v rest, ts) ∷ W) s r → value_of r v ≡ Some (value.Forest a) → a ++ inst r rest ≡ ts
   parts r a z is = ap (λ o. trees_in o ++ inst r rest) (sym is) ∙ z.fits.0
 
-  pub splits_start : (old : List Substitution) → Splits ((forest_var_first v rest, ts) ∷ W) s v 0 old old
-  splits_start old = record { found = []; are = sym (append-nil old); lists = lists_none (λ r z. let h = z.short in absurd (omega arith)) }
+  pub takes : (r : Substitution) (front : List Tree) → Solves ((forest_var_first v rest, ts) ∷ W) s r → value_of r v ≡ Some (value.Forest front) → TakesFront s v rest ts r front
+  takes r front z is = record { vs = task_variables W; extends = z.extends; is = is; fits = parts r front z is }
 
-  pub splits_end : (n : ℕ) (old new : List Substitution) → length ts < n → Splits ((forest_var_first v rest, ts) ∷ W) s v n old new → Appends ((forest_var_first v rest, ts) ∷ W) s old new
+  -- no solution has a forest shorter than n
+  pub splits_start : (n : ℕ) → ((r : Substitution) (front : List Tree) → TakesFront s v rest ts r front → n ≤ length front) → (old : List Substitution)
+      → Splits ((forest_var_first v rest, ts) ∷ W) s v n old old
+  splits_start n h old = record {
+    found = [];
+    are = sym (append-nil old);
+    lists = lists_none (λ r z. let l = z.short in let m = h r z.front (takes r z.front z.solves z.is) in absurd (omega arith));
+  }
+
+  -- each solution has a forest shorter than n
+  pub splits_end : (n : ℕ) (old new : List Substitution) → ((r : Substitution) (front : List Tree) → TakesFront s v rest ts r front → length front < n)
+      → Splits ((forest_var_first v rest, ts) ∷ W) s v n old new → Appends ((forest_var_first v rest, ts) ∷ W) s old new
   splits_end n old new h a = record {
     found = a.found;
     are = a.are;
     lists = lists_same (λ r z. z.solves)
-        (λ r z.
-        let k = forest_value c z.extends in
-        let e = ap length (parts r k.0 z k.1) in
-        record { solves = z; front = k.0; is = k.1; short = omega (arith, e, length-append k.0 (inst r rest)) })
+        (λ r z. let k = forest_value c z.extends in record { solves = z; front = k.0; is = k.1; short = h r k.0 (takes r k.0 z k.1) })
         a.lists;
   }
+
+  -- no list at the head of the trees can be the variable's
+  pub splits_no : (old : List Substitution) → ((r : Substitution) (front : List Tree) → TakesFront s v rest ts r front → ⊥) → Appends ((forest_var_first v rest, ts) ∷ W) s old old
+  splits_no old h = appends_none ((forest_var_first v rest, ts) ∷ W) s old (λ r z. let k = forest_value c z.extends in h r k.0 (takes r k.0 z k.1))
+
+  pub takes_within : (r : Substitution) (front : List Tree) → TakesFront s v rest ts r front → length front ≤ length ts
+  takes_within r front t = let e = ap length t.fits in omega (arith, e, length-append front (inst r rest))
 
   module _ (front behind : List Tree) (e : front ++ behind ≡ ts) (n : ℕ) (long : length front ≡ n) (old mid new : List Substitution) where
     -- solutions with this forest are those with the variable bound to it
@@ -151,3 +166,8 @@ module _ (W : Tasks) (s : Substitution) (v : Var) (rest : Patterns) (c : IsFores
 pub record SplitsAt (W : Tasks) (s : Substitution) (v : Var) (rest : Patterns) (ts front behind : List Tree) (old new : List Substitution) : Type 0 where
   pub joins : front ++ behind ≡ ts
   pub done : Splits ((forest_var_first v rest, ts) ∷ W) s v (length front) old new
+
+-- and this one too
+pub record TriedAt (W : Tasks) (s : Substitution) (v : Var) (rest : Patterns) (ts front behind : List Tree) (old new : List Substitution) : Type 0 where
+  pub joins : front ++ behind ≡ ts
+  pub done : Splits ((forest_var_first v rest, ts) ∷ W) s v (length front + 1) old new

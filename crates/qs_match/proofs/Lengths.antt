@@ -13,21 +13,12 @@ use Rattle.qs_pattern.specs.Substitutions.{value_of}
 use Rattle.qs_pattern.specs.Substitutions.{Substitution, forest_lengths}
 use Rattle.qs_pattern.specs.Patterns.{AreInClass}
 use Rattle.qs_pattern.specs.Instances.{IsMatch}
-use Rattle.qs_match.specs.Tasks.{Tasks, Solves, Extends, Binds}
+use Rattle.qs_match.specs.Tasks.{Tasks, Solves, Extends}
 use Rattle.qs_match.proofs.Values.{known_value, new_to}
-use Rattle.qs_match.proofs.Binding.{bind_to, label_value, tree_value, forest_value}
+use Rattle.qs_match.proofs.Binding.{binding, bind_to, label_value, tree_value, forest_value}
 use Rattle.qs_match.proofs.Listed.{no_more, no_names}
 use Rattle.qs_match.proofs.Fronts.{lengths_at, same_front}
 use Rattle.qs_match.proofs.Variables.{match_to}
-
-module _ {s r : Substitution} {v : Var} {vs : List Var} where
-  -- a value that is there in the end is bound now
-  binding : (x : Value) → Extends (v ∷ vs) s r → value_of r v ≡ Some x → (t : Substitution) × Binds s v x t
-  binding x e is = split (value_of s v) refl
-    where
-      split : (o : Option Value) → value_of s v ≡ o → (t : Substitution) × Binds s v x t
-      split None n = (s ++ (v, x) ∷ [], inr (n, refl))
-      split (Some y) k = let f = known_value s r v vs y k e in let same : value_of s v ≡ Some x = cc in (s, inl (same, refl))
 
 -- forests that stand at one place of equal forest_lengths are equally long
 forest_same : (s r q : Substitution) (v : Var) (vs us : List Var) (a b : List Tree) → Extends (v ∷ vs) s r → Extends (v ∷ us) s q

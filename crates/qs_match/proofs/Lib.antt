@@ -1,10 +1,14 @@
 pub mod Values
 pub mod Substitutions
 pub mod Binding
+pub mod Covered
+pub mod Sides
+pub mod Splits
 pub mod Listed
 pub mod Steps
 pub mod Fronts
 pub mod Variables
 pub mod Variants
+pub mod Measures
 pub mod Calls
 pub mod Lengths

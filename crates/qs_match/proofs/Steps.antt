@@ -14,7 +14,7 @@ use Rattle.qs_match.specs.Tasks.{Tasks, Appends, Binds, Clashes}
 use Rattle.qs_match.proofs.Binding.{bind_to, bind_from, clash_never, label_value, tree_value}
 use Rattle.qs_match.proofs.Listed.{appends_same, appends_none}
 
-node_parts : (l : Label) (ts : List Tree) (u : Tree) → node l ts ≡ u → (l ≡ u.root) × (ts ≡ kids u)
+pub node_parts : (l : Label) (ts : List Tree) (u : Tree) → node l ts ≡ u → (l ≡ u.root) × (ts ≡ kids u)
 node_parts l ts u e = (ap (λ (t : Tree). t.root) e, sym (trees-forest ts) ∙ ap (λ (t : Tree). trees t.subtrees) e)
 
 node_is : (l : Label) (ts : List Tree) (u : Tree) → l ≡ u.root → ts ≡ kids u → node l ts ≡ u

@@ -1,5 +1,5 @@
 -- The new variables among all: each where it first occurs.
-use Rattle.std.proofs.Common.{Bool, true, false, not, cond, ◌==◌, ◌&&◌, ◌≡◌, List, [], ◌∷◌, ◌++◌, filter, refl, sym, ap, ◌∙◌, subst, append_assoc, append-nil}
+use Rattle.std.proofs.Common.{Bool, true, false, not, cond, ◌==◌, ◌&&◌, ◌≡◌, List, [], ◌∷◌, ◌++◌, filter, length, refl, sym, ap, ◌∙◌, subst, append_assoc, append-nil}
 use Rattle.std.proofs.lemmas.Bool.{eqb-true}
 use Rattle.qs_tree.specs.Trees.{Tree}
 use Rattle.qs_pattern.specs.declared.variable.Var.{Var}
@@ -8,11 +8,13 @@ use Rattle.qs_pattern.specs.Patterns.{Patterns, no_pattern, node_first, tree_var
 use Rattle.qs_pattern.specs.Variables.{same_var}
 use Rattle.qs_pattern.specs.Substitutions.{Substitution}
 use Rattle.qs_pattern.specs.Instances.{IsMatch, variables}
-use Rattle.qs_pattern.specs.Patterns.{variables_in}
+use Rattle.qs_pattern.specs.Patterns.{variables_in, AreInClass}
 use Rattle.qs_pattern.specs.Variables.{firsts}
 use Rattle.qs_match.specs.Tasks.{Tasks, among, new_ones, variables_before, Solves, Lists, Appends}
 use Rattle.qs_match.proofs.Values.{names, both}
-use Rattle.qs_match.proofs.Listed.{lists_same}
+use Rattle.qs_match.proofs.Listed.{lists_same, lists_none}
+use Rattle.qs_match.proofs.Covered.{fits}
+use Rattle.qs_match.specs.Counts.{CanFit}
 
 pub variables_before-is : (ps : Patterns) (vs : List Var) → variables_before ps vs ≡ variables_in ps ++ vs
 variables_before-is no_pattern vs = refl
@@ -91,3 +93,8 @@ module _ (side : Patterns) (trees : List Tree) where
   found_matches W s old new w e o a =
       let b : Appends ((side, trees) ∷ []) [] [] new = rw (w, e, o) at a in
       subst (Lists (IsMatch side trees)) (sym b.are) (lists_matches b.found b.lists)
+
+  -- the side can't stand for so many trees
+  pub no_matches : AreInClass side → (CanFit side (length trees) → ⊥) → (found : List Substitution) → found ≡ [] → Lists (IsMatch side trees) found
+  no_matches c never found e =
+      rw e (lists_none (λ r m. let z = match_to r m in never (subst (CanFit side) (ap length z.fits.0) (fits side [] [] r c z.extends))))

@@ -5,6 +5,7 @@ use Rattle.qs_pattern.specs.declared.variable.Var.{Var}
 use Rattle.qs_pattern.specs.declared.pattern.Head.{Head}
 use Rattle.qs_pattern.specs.declared.pattern.Head.TheVariants as head
 use Rattle.qs_pattern.specs.declared.subst.Value.{Value}
+use Rattle.qs_pattern.specs.declared.subst.Value.TheVariants as value
 use Rattle.qs_pattern.specs.Patterns.{Patterns, no_pattern, node_first, tree_var_first, forest_var_first}
 use Rattle.qs_pattern.specs.Instances.{inst}
 use Rattle.qs_pattern.specs.Variables.{same_var}
@@ -88,17 +89,13 @@ pub record Clashes (s : Substitution) (v : Var) (x : Value) : Type 0 where
   pub has : value_of s v ≡ Some value
   pub differs : value ≡ x → ⊥
 
--- how many steps the work takes at most
-abbrev pub weight : Patterns → ℕ
-weight no_pattern = 1
-weight (node_first h kids rest) = weight kids + weight rest + 1
-weight (tree_var_first v rest) = weight rest + 1
-weight (forest_var_first v rest) = weight rest + 1
-
-abbrev pub total : Tasks → ℕ
-total [] = 0
-total (w ∷ ws) = weight w.0 + total ws
-
 -- the solutions in which the variable has this value were appended
 abbrev pub Tries : Tasks → Substitution → Var → Value → List Substitution → List Substitution → Type 0
 Tries work s v x old new = ((t : Substitution) × Binds s v x t × Appends work t old new) ⊎ (Clashes s v x × (new ≡ old))
+
+-- r gives the variable, which stands before these patterns, this list at the head of the trees
+pub record TakesFront (s : Substitution) (v : Var) (rest : Patterns) (ts : List Tree) (r : Substitution) (front : List Tree) : Type 0 where
+  pub vs : List Var
+  pub extends : Extends (v ∷ variables_before rest vs) s r
+  pub is : value_of r v ≡ Some (value.Forest front)
+  pub fits : front ++ inst r rest ≡ ts

@@ -2,13 +2,12 @@
 #![tactic(auto)]
 
 mod bindings;
-mod class;
+mod counts;
 pub mod laws;
 mod matches;
 mod remaining;
 mod search;
 
-pub use class::are_in_class;
 pub use matches::all_matches;
 pub use std::alloc::AllocError as Memory;
 

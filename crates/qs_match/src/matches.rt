@@ -9,6 +9,7 @@ ghost use Rattle.qs_pattern.specs.Instances.{IsMatch};
 ghost use Rattle.qs_match.specs.Order.{LengthsBefore};
 
 use crate::bindings::Bindings;
+use crate::counts::can_fit;
 use crate::remaining::Remaining;
 use crate::search::search;
 use qs_pattern::{Pattern, Subst};
@@ -27,6 +28,9 @@ pub fn all_matches(
     ensures ascending { IfOk result (λ v. Ascends LengthsBefore v.items) }
 {
     let mut found = Vec::new(alloc);
+    if !can_fit(side, trees) {
+        return Ok(found);
+    }
     search(
         alloc,
         side,

@@ -13,9 +13,10 @@ ghost use Rattle.qs_match.specs.Bindings.{value_of_ref, substitution_of};
 ghost use Rattle.qs_match.specs.Remaining.{tasks_of};
 
 use crate::bindings::{Bindings, ValueRef, are_equal, find, subst_of};
+use crate::counts::{can_be_root, can_fit, lengths_of, split_behind};
 use crate::remaining::Remaining;
 use qs_pattern::{Head, Pattern, Subst, Var};
-use qs_tree::{ForestRef, Split};
+use qs_tree::ForestRef;
 use std::alloc::{AllocError, Global};
 
 // Appends each solution of the side at the trees and of all that remains to be matched.
@@ -94,19 +95,19 @@ fn search_node(
     let Some((tree, behind)) = trees.first_rest() else {
         return Ok(());
     };
+    if !can_be_root(head, tree.root()) {
+        return Ok(());
+    }
+    if !can_fit(kids, tree.kids()) {
+        return Ok(());
+    }
     let after = Remaining::Then {
         side: &*rest,
         trees: behind,
         remaining: &*remaining,
     };
     match head {
-        Head::Label(label) => {
-            if label == tree.root() {
-                search(alloc, kids, tree.kids(), &after, bindings, found)
-            } else {
-                Ok(())
-            }
-        }
+        Head::Label(_) => search(alloc, kids, tree.kids(), &after, bindings, found),
         Head::Var(var) => search_with(
             alloc,
             var,
@@ -165,7 +166,13 @@ fn search_forest(
     requires substitution { IsSubstitution (substitution_of bindings.now) }
     ensures { OnOk result (Appends ((forest_var_first var (patterns rest.now), trees_of trees.entry.cells.now) ∷ tasks_of remaining.now) (substitution_of bindings.now) found.old.items found.new.items) }
 {
-    let mut split = Split::start(trees);
+    let Some(lengths) = lengths_of(var, rest, trees, bindings) else {
+        return Ok(());
+    };
+    let Some(mut split) = split_behind(trees, lengths.least) else {
+        return Ok(());
+    };
+    let mut length = lengths.least;
     'fronts: loop {
         let front = ValueRef::Forest(split.front());
         search_with(
@@ -178,10 +185,14 @@ fn search_forest(
             bindings,
             found,
         )?;
+        if lengths.most <= length {
+            return Ok(());
+        }
         let Some(longer) = split.next() else {
             return Ok(());
         };
         split = longer;
+        length += 1;
     }
 }
 

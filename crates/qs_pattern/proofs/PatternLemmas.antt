@@ -1,5 +1,6 @@
 -- The equations of patterns.
-use Rattle.std.proofs.Common.{◌≡◌, List, [], ◌∷◌, map, sym, refl, ap, ◌∙◌, Global}
+use Rattle.std.proofs.Common.{◌≡◌, ◌-◌, ◌≤◌, List, [], ◌∷◌, length, take, drop, get_or, map, sym, refl, ap, ◌∙◌, arith, Global}
+use Rattle.std.proofs.lemmas.Grind.{common_steps}
 use Rattle.std.specs.declared.vec.Vec.{Vec}
 use mathlib.Core.Former.{Count}
 use Rattle.qs_pattern.specs.declared.pattern.Head.{Head}
@@ -13,6 +14,19 @@ row_patterns-is (more_of-Pattern p rest) = ap (pattern_before p) (row_patterns-i
 
 pub pattern-Node : (h : Head) (ks : Vec Pattern Global) (rest : Patterns) → pattern_before (Node h ks) rest ≡ node_first h (patterns ks.items) rest
 pattern-Node h ks rest = ap (λ ts. node_first h ts rest) (row_patterns-is (hidden-the_row-Pattern-0 ks) ∙ ap patterns (items_hidden-the_row-Pattern-0 ks))
+
+rest_is : (q : Pattern) (qs : List Pattern) → take (length (q ∷ qs) - 1) (drop 1 (q ∷ qs)) ≡ qs
+rest_is q qs = grind (arith, common_steps)
+
+-- the first pattern of a list is a node
+pub side_node : (ps : List Pattern) (p : Pattern) (h : Head) (ks : Vec Pattern Global) (kids : List Pattern) → 1 ≤ length ps → p ≡ get_or ps 0 p → p ≡ Node h ks → kids ≡ ks.items
+    → patterns ps ≡ node_first h (patterns kids) (patterns (take (length ps - 1) (drop 1 ps)))
+side_node [] p h ks kids some is node e = absurd (omega arith)
+side_node (q ∷ qs) p h ks kids some is node e =
+    let first : q ≡ Node h ks = sym is ∙ node in
+    ap (λ (r : Pattern). pattern_before r (patterns qs)) first ∙ pattern-Node h ks (patterns qs)
+    ∙ ap (λ (us : List Pattern). node_first h (patterns us) (patterns qs)) (sym e)
+    ∙ ap (λ (us : List Pattern). node_first h (patterns kids) (patterns us)) (sym (rest_is q qs))
 
 -- one list of patterns behind another
 abbrev pub behind : Patterns → Patterns → Patterns

@@ -2,12 +2,14 @@
 #![tactic(auto)]
 
 mod copies;
+mod in_class;
 mod instances;
 mod pattern;
 mod rule;
 mod subst;
 mod variable;
 
+pub use in_class::are_in_class;
 pub use instances::{forest_of, instance};
 pub use pattern::{Head, Pattern};
 pub use rule::Rule;

@@ -1,6 +1,6 @@
 //! Substitutions: what variables stand for.
 
-ghost use Rattle.std.specs.Prelude.{◌≡◌, ◌++◌, ◌∷◌, [], None, OnOk, OnErr};
+ghost use Rattle.std.specs.Prelude.{◌≡◌, ◌++◌, ◌∷◌, [], None, IfOk, OnOk, OnErr};
 ghost use Rattle.std.specs.Option.{option_copied};
 ghost use Rattle.qs_pattern.specs.Substitutions.{value_of, IsOfClass, IsSubstitution};
 
@@ -15,6 +15,19 @@ pub enum Value {
     Label(Label),
     Tree(Tree),
     Forest(Forest),
+}
+
+impl Value {
+    /// An equal value.
+    pub fn copy(&self) -> Result<Value, AllocError>
+        ensures { IfOk result (λ v. v ≡ self.now) }
+    {
+        match self {
+            Value::Label(label) => Ok(Value::Label(*label)),
+            Value::Tree(tree) => Ok(Value::Tree(tree.copy()?)),
+            Value::Forest(forest) => Ok(Value::Forest(forest.copy()?)),
+        }
+    }
 }
 
 /// A list of variables and their values. Each variable stands once, and each value is of its variable's class.
@@ -62,6 +75,18 @@ impl Subst {
     {
         self.pairs.push((var, value))?;
         Ok(())
+    }
+
+    /// An equal list.
+    pub fn copy(&self) -> Result<Subst, AllocError>
+        ensures { IfOk result (λ s. s ≡ self.now) }
+    {
+        let mut pairs = Vec::with_capacity(*self.pairs.allocator(), self.pairs.len())?;
+        for pair in &self.pairs {
+            let value = pair.1.copy()?;
+            pairs.push((pair.0, value))?;
+        }
+        Ok(Subst { pairs })
     }
 
     /// What a variable stands for. None exactly where it has no value. Takes no memory.

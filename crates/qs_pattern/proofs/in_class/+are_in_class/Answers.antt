@@ -1,13 +1,12 @@
 use Rattle.std.proofs.Common.{arith, ap, sym, subst, IsTrue}
-use Rattle.qs_pattern.specs.Patterns.{AreInClass}
-use Rattle.qs_match.specs.Tasks.{weight}
-use Rattle.qs_match.proofs.Calls.{side_node}
-use Rattle.qs_match.proofs.class.+are_in_class.Goals as goal
+use Rattle.qs_pattern.specs.Patterns.{AreInClass, cells}
+use Rattle.qs_pattern.proofs.PatternLemmas.{side_node}
+use Rattle.qs_pattern.proofs.in_class.+are_in_class.Goals as goal
 
 pub are_in_class-requires : goal.are_in_class-requires
 are_in_class-requires t c =
     let e = side_node c.args.side.now c.first-item.result c.in-Node.head c.in-Node.kids c.deref.result.now c.in-len1-up.len_at_least c.first-item.is c.in-Node.is c.deref.ensures.value in
-    (omega (arith, ap weight e), tt)
+    (omega (arith, ap cells e), tt)
 
 pub returns-then-not-are_in_class : goal.returns-then-not-are_in_class
 returns-then-not-are_in_class t c =

@@ -1,11 +1,11 @@
-//! Whether patterns are in class.
+//! Whether each variable of patterns stands at a place of its class.
 
 ghost use Rattle.std.specs.Prelude.{◌↔◌, IsTrue};
-ghost use Rattle.qs_pattern.specs.Patterns.{patterns};
-ghost use Rattle.qs_pattern.specs.Patterns.{AreInClass, IsHeadInClass};
+ghost use Rattle.qs_pattern.specs.Patterns.{patterns, AreInClass, IsHeadInClass};
 ghost use Rattle.qs_pattern.specs.Variables.{IsLabelVar, IsTreeVar, IsForestVar};
 
-use qs_pattern::{Head, Pattern, Var};
+use crate::pattern::{Head, Pattern};
+use crate::variable::Var;
 
 fn is_label_var(var: Var) -> bool
     ensures { IsTrue result ↔ IsLabelVar var }
@@ -34,7 +34,8 @@ fn is_head_in_class(head: Head) -> bool
     }
 }
 
-/// Whether each variable is of the class of its place.
+/// Whether each variable of the patterns stands at a place of its class: a label variable as a head, a tree variable and a
+/// forest variable for themselves, at every depth. Takes no memory.
 pub fn are_in_class(side: &[Pattern]) -> bool
     ensures { IsTrue result ↔ AreInClass (patterns side.now) }
 {

@@ -1,0 +1,73 @@
+-- The first pattern of a list, and how many patterns stand for one tree each.
+use Rattle.std.proofs.Common.{◌≡◌, ℕ, ◌+◌, ◌-◌, ◌<◌, ◌≤◌, List, [], ◌∷◌, length, take, drop, get_or, refl, sym, ap, ◌∙◌, subst, arith, Vec, Global}
+use Rattle.std.proofs.lemmas.Grind.{common_steps}
+use Rattle.std.proofs.lemmas.List.{drop_more, drop_all}
+use mathlib.Core.Former.{Count}
+use Rattle.qs_pattern.specs.declared.pattern.Head.{Head}
+use Rattle.qs_pattern.specs.declared.pattern.Pattern.{Pattern, Node, Node', Tree, Forest, Row_of-Pattern, end_of-Pattern, more_of-Pattern, items-the_row-Pattern, items_hidden-the_row-Pattern-0}
+use Rattle.qs_pattern.specs.declared.pattern.Pattern.TheBlock.{hidden-the_row-Pattern-0}
+use Rattle.qs_pattern.specs.Patterns.{Patterns, no_pattern, node_first, pattern_before, row_patterns, patterns, one_pattern, NoForestAtTop}
+use Rattle.qs_match.specs.Counts.{singles, CanFit}
+
+row_patterns-is : {n : Count} (row : Row_of-Pattern n) → row_patterns row ≡ patterns (items-the_row-Pattern n row)
+row_patterns-is end_of-Pattern = refl
+row_patterns-is (more_of-Pattern p row) = ap (pattern_before p) (row_patterns-is row)
+
+pub node_is : (h : Head) (ks : Vec Pattern Global) (behind : Patterns) → pattern_before (Node h ks) behind ≡ node_first h (patterns ks.items) behind
+node_is h ks behind = ap (λ us. node_first h us behind) (row_patterns-is (hidden-the_row-Pattern-0 ks) ∙ ap patterns (items_hidden-the_row-Pattern-0 ks))
+
+rest_is : (q : Pattern) (qs : List Pattern) → take (length (q ∷ qs) - 1) (drop 1 (q ∷ qs)) ≡ qs
+rest_is q qs = grind (arith, common_steps)
+
+-- the first pattern is a node
+pub side_node : (ps : List Pattern) (p : Pattern) (h : Head) (ks : Vec Pattern Global) (kids : List Pattern) → 1 ≤ length ps → p ≡ get_or ps 0 p → p ≡ Node h ks → kids ≡ ks.items
+    → patterns ps ≡ node_first h (patterns kids) (patterns (take (length ps - 1) (drop 1 ps)))
+side_node [] p h ks kids some is node e = absurd (omega arith)
+side_node (q ∷ qs) p h ks kids some is node e =
+    let first : q ≡ Node h ks = sym is ∙ node in
+    ap (λ (r : Pattern). pattern_before r (patterns qs)) first ∙ node_is h ks (patterns qs)
+    ∙ ap (λ (us : List Pattern). node_first h (patterns us) (patterns qs)) (sym e)
+    ∙ ap (λ (us : List Pattern). node_first h (patterns kids) (patterns us)) (sym (rest_is q qs))
+
+singles-before : (p : Pattern) (us : Patterns) → singles (pattern_before p us) ≡ singles (one_pattern p) + singles us
+singles-before (Node' h shape kids) us = omega arith
+singles-before (Tree v) us = omega arith
+singles-before (Forest v) us = omega arith
+
+pub singles-drop : (ps : List Pattern) (i : ℕ) (p : Pattern) → i < length ps → p ≡ get_or ps i p → singles (patterns (drop i ps)) ≡ singles (one_pattern p) + singles (patterns (drop (i + 1) ps))
+singles-drop ps i p l is =
+    ap (λ us. singles (patterns us)) (drop_more ps i p l) ∙ singles-before (get_or ps i p) (patterns (drop (i + 1) ps))
+    ∙ ap (λ q. singles (one_pattern q) + singles (patterns (drop (i + 1) ps))) (sym is)
+
+pub singles-end : (ps : List Pattern) (i : ℕ) → length ps ≤ i → singles (patterns (drop i ps)) ≡ 0
+singles-end ps i l = ap (λ us. singles (patterns us)) (drop_all i ps l)
+
+pub singles-least : (ps : List Pattern) → singles (patterns ps) ≤ length ps
+singles-least [] = omega arith
+singles-least (Node' h shape kids ∷ ps) = omega (arith, singles-least ps)
+singles-least (Tree v ∷ ps) = omega (arith, singles-least ps)
+singles-least (Forest v ∷ ps) = omega (arith, singles-least ps)
+
+singles-all : (ps : List Pattern) → NoForestAtTop (patterns ps) → singles (patterns ps) ≡ length ps
+singles-all [] n = refl
+singles-all (Node' h shape kids ∷ ps) n = omega (arith, singles-all ps n)
+singles-all (Tree v ∷ ps) n = omega (arith, singles-all ps n)
+singles-all (Forest v ∷ ps) n = absurd n
+
+all-singles : (ps : List Pattern) → singles (patterns ps) ≡ length ps → NoForestAtTop (patterns ps)
+all-singles [] e = tt
+all-singles (Node' h shape kids ∷ ps) e = let f : singles (patterns ps) ≡ length ps = omega arith in all-singles ps f
+all-singles (Tree v ∷ ps) e = let f : singles (patterns ps) ≡ length ps = omega arith in all-singles ps f
+all-singles (Forest v ∷ ps) e = absurd (omega (arith, singles-least ps))
+
+module _ (ps : List Pattern) (n : ℕ) where
+  -- without a forest variable
+  pub fit_all : singles (patterns ps) ≡ length ps → n ≡ singles (patterns ps) → CanFit (patterns ps) n
+  fit_all e f = record { least = omega arith; exact = λ s. sym f }
+
+  pub fit_all-is : singles (patterns ps) ≡ length ps → CanFit (patterns ps) n → n ≡ singles (patterns ps)
+  fit_all-is e c = sym (c.exact (all-singles ps e))
+
+  -- with one
+  pub fit_some : (singles (patterns ps) ≡ length ps → ⊥) → singles (patterns ps) ≤ n → CanFit (patterns ps) n
+  fit_some d l = record { least = l; exact = λ s. absurd (d (singles-all ps s)) }
