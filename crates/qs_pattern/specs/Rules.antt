@@ -53,3 +53,7 @@ pub record IsAccepted (rule : Rule) : Type 0 where
   pub cells : rule_cells rule ≤ 256
   pub variables : length (firsts (rule_variables rule)) ≤ 32
   pub bound : (v : Var) → v ∈ variables_behind rule → v ∈ variables_in rule.left
+
+-- In the left side of each of these rules every variable stands at a place of its class, as it does in accepted rules.
+abbrev pub AllInClass : List Rule → Type 0
+AllInClass rules = (rule : Rule) → rule ∈ rules → AreInClass rule.left
