@@ -1,1 +1,4 @@
 pub mod Orders
+pub mod Keys
+pub mod FiringDecisions
+pub mod Listing
