@@ -1,2 +1,5 @@
 pub mod Ascending
 pub mod Rounds
+pub mod Sorting
+pub mod Existence
+pub mod Progress

@@ -15,6 +15,10 @@ pub record Round (R : List Rule) (G : QGraph) (done : List Firing) (F : List Fir
   pub new : (f : Firing) → f ∈ F → f ∈ done → ⊥
   pub all : (f : Firing) → Fires R G.arcs f → (f ∈ done) ⊎ (f ∈ F)
 
+-- Each graph has a round, whatever is done.
+abbrev pub HasRounds : List Rule → Type 0
+HasRounds R = (G : QGraph) (done : List Firing) → (F : List Firing) × Round R G done F
+
 -- A firing that is done, with the number of the first arc that it added and the number of its round.
 pub record Done : Type 0 where
   pub firing : Firing
