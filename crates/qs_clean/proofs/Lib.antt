@@ -1,1 +1,4 @@
 pub mod Outcomes
+pub mod Straight
+pub mod ExampleClosures
+pub mod ExampleCleaning

@@ -6,7 +6,7 @@ use Rattle.qs_pattern.specs.Conditions.{HoldsIfGiven}
 use Rattle.qs_pattern.specs.Rules.{Rule}
 use Rattle.qs_graph.specs.Graphs.{Arc, Leads, IsPath, trees_on}
 use Rattle.qs_firing.specs.Firings.{Firing, Fires}
-use Rattle.qs_tree.proofs.Decisions.{decide_number, decide_list}
+use Rattle.qs_tree.proofs.Decisions.{nothing_there, same_there, decide_number, decide_list}
 use Rattle.qs_pattern.proofs.MatchDecisions.{decide_substitution, decide_match, decide_if_given}
 
 -- whether these arcs lead on from a node
@@ -16,12 +16,11 @@ decide_leads arcs a (k ∷ ks) = at (slice_get arcs k) refl (λ n. decide_leads 
   where
     on : (arc : Arc) → slice_get arcs k ≡ Some arc → Dec (arc.from ≡ a) → Dec ((b : ℕ) × Leads arcs arc.to ks b) → Dec ((b : ℕ) × Leads arcs a (k ∷ ks) b)
     on arc is (yes e) (yes l) = yes (l.0, (arc, is, e, l.1))
-    on arc is (no n) l = no (λ (b, (other, at, e, rest)). let same : Some other ≡ Some arc = sym at ∙ is in n cc)
-    on arc is e (no n) = no (λ (b, (other, at, e, rest)).
-        let same : other ≡ arc = cc in n (b, subst (λ (x : Arc). Leads arcs x.to ks b) same rest))
+    on arc is (no n) l = no (λ (b, (other, at, e, rest)). n (ap (λ (x : Arc). x.from) (same_there is at) ∙ e))
+    on arc is e (no n) = no (λ (b, (other, at, e, rest)). n (b, subst (λ (x : Arc). Leads arcs x.to ks b) (same_there at is) rest))
 
     at : (o : Option Arc) → slice_get arcs k ≡ o → ((n : ℕ) → Dec ((b : ℕ) × Leads arcs n ks b)) → Dec ((b : ℕ) × Leads arcs a (k ∷ ks) b)
-    at None is rest = no (λ (b, (other, at, e, l)). cc)
+    at None is rest = no (λ (b, (other, at, e, l)). nothing_there is at)
     at (Some arc) is rest = on arc is (decide_number arc.from a) (rest arc.to)
 
 -- a path starts where its first arc does
@@ -33,11 +32,11 @@ decide_path arcs (k ∷ ks) = at (slice_get arcs k) refl (λ n. decide_leads arc
     on arc is (yes l) = yes (arc.from, l.0, record { some = omega arith; leads = l.1 })
     on arc is (no n) = no (λ (a, b, p).
         let (other, at, e, rest) = p.leads in
-        let same : arc.from ≡ a = ap (λ (x : Arc). x.from) (let s : arc ≡ other = cc in s) ∙ e in
+        let same : arc.from ≡ a = ap (λ (x : Arc). x.from) (same_there is at) ∙ e in
         n (b, subst (λ (x : ℕ). Leads arcs x (k ∷ ks) b) (sym same) p.leads))
 
     at : (o : Option Arc) → slice_get arcs k ≡ o → ((n : ℕ) → Dec ((b : ℕ) × Leads arcs n (k ∷ ks) b)) → Dec ((a : ℕ) × (b : ℕ) × IsPath arcs a (k ∷ ks) b)
-    at None is f = no (λ (a, b, p). let (other, at, e, rest) = p.leads in cc)
+    at None is f = no (λ (a, b, p). let (other, at, e, rest) = p.leads in nothing_there is at)
     at (Some arc) is f = on arc is (f arc.from)
 
 abbrev pub decide_firing : (f g : Firing) → Dec (f ≡ g)
@@ -74,10 +73,8 @@ decide_fires R arcs f = at (slice_get R f.rule) refl
     by : (rule : Rule) → slice_get R f.rule ≡ Some rule → Dec (FiresBy arcs f rule) → Dec (Fires R arcs f)
     by rule is (yes r) = yes (record { rule = rule; is_rule = is; from = r.path.0; to = r.path.1; path = r.path.2; long = r.long; matches = r.matches; holds = r.holds })
     by rule is (no n) = no (λ r.
-        let i = r.is_rule in
-        let same : r.rule ≡ rule = cc in
-        n (subst (FiresBy arcs f) same (record { path = (r.from, r.to, r.path); long = r.long; matches = r.matches; holds = r.holds })))
+        n (subst (FiresBy arcs f) (same_there r.is_rule is) (record { path = (r.from, r.to, r.path); long = r.long; matches = r.matches; holds = r.holds })))
 
     at : (o : Option Rule) → slice_get R f.rule ≡ o → Dec (Fires R arcs f)
-    at None is = no (λ r. let i = r.is_rule in cc)
+    at None is = no (λ r. nothing_there is r.is_rule)
     at (Some rule) is = by rule is (decide_fires_by arcs f rule)

@@ -1,6 +1,7 @@
 -- A list of substitutions in which each match of a side with given trees is.
 use Rattle.std.proofs.Common.{◌≡◌, ℕ, zero, suc, ◌+◌, ◌≤◌, Bool, true, false, List, [], ◌∷◌, ◌++◌, length, map, refl, sym, ◌∙◌, ap, subst, inl, inr, ⊎_elim, ◌⊎◌, arith, Some}
 use Rattle.std.specs.Prelude.{if◌then◌else◌}
+use Rattle.std.proofs.lemmas.List.{length-map}
 use Rattle.qs_tree.specs.Lists.{◌∈◌}
 use Rattle.qs_tree.specs.Trees.{Forest, no_tree, first_tree, Tree, forest, size}
 use Rattle.qs_pattern.specs.declared.variable.Var.{Var}
@@ -89,17 +90,13 @@ named_or_zero ((w, x) ∷ s) v = tested (same_var w v) refl (named_or_zero s v)
 abbrev pub candidates : Patterns → List Tree → List Substitution
 candidates side ts = map (λ ns. values_from side (number_of (variables side) ns) ts) (sequences (length (variables side)) (up_to (nodes ts)))
 
-length-map : {X Y : Type 0} (f : X → Y) (xs : List X) → length (map f xs) ≡ length xs
-length-map f [] = refl
-length-map f (x ∷ xs) = ap suc (length-map f xs)
-
 pub is_candidate : (side : Patterns) → AreInClass side → (ts : List Tree) (s : Substitution) → IsMatch side ts s → s ∈ candidates side ts
 is_candidate side c ts s m =
     let vs = variables side in
     let few : (v : Var) → v ∈ vs → length_of s v ∈ up_to (nodes ts) =
     (λ v i. in_up_to (nodes ts) (length_of s v) (omega (arith, ap nodes m.instance, length_of-few s side c (matched_value side ts s m) v (from_firsts (variables_in side) v i)))) in
     let w : map (length_of s) vs ∈ sequences (length vs) (up_to (nodes ts)) =
-    in_sequences (up_to (nodes ts)) (map (length_of s) vs) (length vs) (length-map (length_of s) vs) (from_map (length_of s) vs (λ k. k ∈ up_to (nodes ts)) few) in
+    in_sequences (up_to (nodes ts)) (map (length_of s) vs) (length vs) (length-map vs (length_of s)) (from_map (length_of s) vs (λ k. k ∈ up_to (nodes ts)) few) in
     let same : (v : Var) → number_of vs (map (length_of s) vs) v ≡ length_of s v =
     (λ v. number_of-map (length_of s) vs v (⊎_elim (λ i. inl (subst (λ us. v ∈ us) m.variables i)) inr (named_or_zero s v))) in
     let e : values_from side (number_of vs (map (length_of s) vs)) ts ≡ s = (λ i. values_from side (λ v. same v i) ts) ∙ sym (match-values side c ts s m) in

@@ -1,5 +1,5 @@
 -- Whether a substitution is a match, and whether a condition holds, is decided.
-use Rattle.std.proofs.Common.{◌≡◌, List, ap, refl, Option, Some, None}
+use Rattle.std.proofs.Common.{◌≡◌, List, ap, sym, refl, Option, Some, None}
 use Rattle.qs_tree.specs.Lists.{◌∈◌}
 use Rattle.qs_tree.specs.declared.cell.Label.{Label}
 use Rattle.qs_tree.specs.Trees.{Tree}
@@ -24,28 +24,46 @@ decide_var v w = both (decide_number v.letter w.letter) (decide_number v.number 
 abbrev pub decide_trees : (ts us : List Tree) → Dec (ts ≡ us)
 decide_trees = decide_list decide_tree
 
+pub same_label : {l m : Label} → value.Label l ≡ value.Label m → l ≡ m
+same_label e = cc
+
+pub same_tree : {t u : Tree} → value.Tree t ≡ value.Tree u → t ≡ u
+same_tree e = cc
+
+pub same_forest : {ts us : List Tree} → value.Forest ts ≡ value.Forest us → ts ≡ us
+same_forest e = cc
+
+pub label_tree : {l : Label} {t : Tree} → value.Label l ≡ value.Tree t → ⊥
+label_tree e = absurd cc
+
+pub label_forest : {l : Label} {ts : List Tree} → value.Label l ≡ value.Forest ts → ⊥
+label_forest e = absurd cc
+
+pub tree_forest : {t : Tree} {ts : List Tree} → value.Tree t ≡ value.Forest ts → ⊥
+tree_forest e = absurd cc
+
 abbrev pub decide_value : (x y : Value) → Dec (x ≡ y)
 decide_value (value.Label l) (value.Label m) = by (decide_label l m)
   where
     by : Dec (l ≡ m) → Dec (value.Label l ≡ value.Label m)
     by (yes e) = yes (ap (λ (k : Label). value.Label k) e)
-    by (no n) = no (λ e. n cc)
+    by (no n) = no (λ e. n (same_label e))
 decide_value (value.Tree t) (value.Tree u) = by (decide_tree t u)
   where
     by : Dec (t ≡ u) → Dec (value.Tree t ≡ value.Tree u)
     by (yes e) = yes (ap (λ (r : Tree). value.Tree r) e)
-    by (no n) = no (λ e. n cc)
+    by (no n) = no (λ e. n (same_tree e))
 decide_value (value.Forest ts) (value.Forest us) = by (decide_trees ts us)
   where
     by : Dec (ts ≡ us) → Dec (value.Forest ts ≡ value.Forest us)
     by (yes e) = yes (ap (λ (rs : List Tree). value.Forest rs) e)
-    by (no n) = no (λ e. n cc)
-decide_value (value.Label l) (value.Tree u) = no (λ e. cc)
-decide_value (value.Label l) (value.Forest us) = no (λ e. cc)
-decide_value (value.Tree t) (value.Label m) = no (λ e. cc)
-decide_value (value.Tree t) (value.Forest us) = no (λ e. cc)
-decide_value (value.Forest ts) (value.Label m) = no (λ e. cc)
-decide_value (value.Forest ts) (value.Tree u) = no (λ e. cc)
+    by (no n) = no (λ e. n (same_forest e))
+decide_value (value.Label l) (value.Tree u) = no (λ e. label_tree e)
+decide_value (value.Label l) (value.Forest us) = no (λ e. label_forest e)
+decide_value (value.Tree t) (value.Label m) = no (λ e. label_tree (sym e))
+decide_value (value.Tree t) (value.Forest us) = no (λ e. tree_forest e)
+decide_value (value.Forest ts) (value.Label m) = no (λ e. label_forest (sym e))
+decide_value (value.Forest ts) (value.Tree u) = no (λ e. tree_forest (sym e))
 
 abbrev decide_pair : (p q : Var × Value) → Dec (p ≡ q)
 decide_pair p q = both (decide_var p.0 q.0) (decide_value p.1 q.1)

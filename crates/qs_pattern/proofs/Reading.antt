@@ -1,6 +1,7 @@
 -- The values of a match are read off its trees, where the lengths of its forests are known.
 use Rattle.std.proofs.Common.{◌≡◌, ℕ, ◌≤◌, List, [], ◌∷◌, ◌++◌, length, map, take, drop, refl, sym, ◌∙◌, ap, inl, inr, arith, Option, Some, append_assoc, append-nil}
 use Rattle.std.proofs.lemmas.List.{map-append}
+use Rattle.std.proofs.Math.Seq.{take-append_seam, drop-append_seam}
 use Rattle.qs_tree.specs.Lists.{◌∈◌}
 use Rattle.qs_tree.specs.declared.cell.Label.{Label}
 use Rattle.qs_tree.specs.Trees.{Tree, kids, forest, trees-forest}
@@ -62,14 +63,6 @@ tree_of_var s v c h = let (t, e) = tree_value v h.value c h.class in (t, h.is �
 pub forest_of_var : (s : Substitution) (v : Var) → IsForestVar v → HasValue s v → (ts : List Tree) × (value_of s v ≡ Some (value.Forest ts))
 forest_of_var s v c h = let (ts, e) = forest_value v h.value c h.class in (ts, h.is ∙ ap Some e)
 
-take-front : {X : Type 0} (xs ys : List X) → take (length xs) (xs ++ ys) ≡ xs
-take-front [] ys = refl
-take-front (x ∷ xs) ys = ap (λ zs. x ∷ zs) (take-front xs ys)
-
-drop-front : {X : Type 0} (xs ys : List X) → drop (length xs) (xs ++ ys) ≡ ys
-drop-front [] ys = refl
-drop-front (x ∷ xs) ys = drop-front xs ys
-
 module _ (s : Substitution) where
   valued-append : (vs ws : List Var) → valued s (vs ++ ws) ≡ valued s vs ++ valued s ws
   valued-append vs ws = map-append (λ (v : Var). (v, value_or_zero s v)) vs ws
@@ -99,6 +92,6 @@ module _ (s : Substitution) where
       let (ts, e) = forest_of_var s v c.0 (has v (inl refl)) in
       let d : read behind (length_of s) (inst s behind ++ more) ≡ valued s (variables_in behind) = read-is behind c.1 (λ w i. has w (inr i)) more in
       let a : (ts ++ inst s behind) ++ more ≡ ts ++ (inst s behind ++ more) = append_assoc ts (inst s behind) more in
-      let front : take (length ts) ((ts ++ inst s behind) ++ more) ≡ ts = ap (take (length ts)) a ∙ take-front ts (inst s behind ++ more) in
-      let back : drop (length ts) ((ts ++ inst s behind) ++ more) ≡ inst s behind ++ more = ap (drop (length ts)) a ∙ drop-front ts (inst s behind ++ more) in
+      let front : take (length ts) ((ts ++ inst s behind) ++ more) ≡ ts = ap (take (length ts)) a ∙ take-append_seam ts (inst s behind ++ more) in
+      let back : drop (length ts) ((ts ++ inst s behind) ++ more) ≡ inst s behind ++ more = ap (drop (length ts)) a ∙ drop-append_seam ts (inst s behind ++ more) in
       rw e (λ i. (v, value.Forest (front i)) ∷ (ap (read behind (length_of s)) back ∙ d) i)

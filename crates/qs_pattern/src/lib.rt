@@ -4,6 +4,7 @@
 mod copies;
 mod in_class;
 mod instances;
+pub mod laws;
 mod pattern;
 mod rule;
 mod subst;
