@@ -1,5 +1,5 @@
 -- The values of a match are read off its trees, where the lengths of its forests are known.
-use Rattle.std.proofs.Common.{◌≡◌, ℕ, ◌≤◌, List, [], ◌∷◌, ◌++◌, length, map, take, drop, refl, sym, ◌∙◌, ap, inl, inr, arith, Option, Some, append_assoc, append-nil}
+use Rattle.std.proofs.Common.{◌≡◌, ℕ, List, [], ◌∷◌, ◌++◌, length, take, drop, refl, sym, ◌∙◌, ap, inl, inr, arith, Option, Some, append_assoc, append-nil}
 use Rattle.std.proofs.lemmas.List.{map-append}
 use Rattle.std.proofs.Math.Seq.{take-append_seam, drop-append_seam}
 use Rattle.qs_tree.specs.Lists.{◌∈◌}
@@ -13,7 +13,7 @@ use Rattle.qs_pattern.specs.declared.subst.Value.TheVariants as value
 use Rattle.qs_pattern.specs.Variables.{IsLabelVar, IsTreeVar, IsForestVar}
 use Rattle.qs_pattern.specs.Patterns.{Patterns, no_pattern, node_first, tree_var_first, forest_var_first, head_variables, variables_in, IsHeadInClass, AreInClass}
 use Rattle.qs_pattern.specs.Substitutions.{Substitution, value_of, IsOfClass}
-use Rattle.qs_pattern.specs.Instances.{inst, label_of, label_in, tree_in, trees_in}
+use Rattle.qs_pattern.specs.Instances.{inst, label_of}
 use Rattle.qs_tree.proofs.Members.{in_append_left, in_append_right}
 use Rattle.qs_pattern.proofs.VariableLemmas.{HasValue, valued, value_or_zero}
 

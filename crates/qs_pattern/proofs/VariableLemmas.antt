@@ -1,5 +1,5 @@
 -- Variables, each once, and what substitutions give them.
-use Rattle.std.proofs.Common.{◌≡◌, ℕ, Bool, true, false, List, [], ◌∷◌, map, refl, sym, ◌∙◌, ap, subst, inl, inr, ◌⊎◌, Some, unwrap_or, eqb, eqb-true, eq-eqb}
+use Rattle.std.proofs.Common.{◌≡◌, Bool, true, false, List, [], ◌∷◌, map, refl, sym, ◌∙◌, ap, subst, inl, inr, Some, unwrap_or, eqb, eqb-true, eq-eqb}
 use Rattle.std.specs.Prelude.{◌&&◌, not, if◌then◌else◌}
 use Rattle.std.specs.List.{filter}
 use Rattle.qs_tree.specs.Lists.{◌∈◌}

@@ -1,6 +1,6 @@
 -- How the logic tells patterns, conditions and rules apart: by a tree of numbers for each. Nothing that a reader has to
 -- believe stands here.
-use Rattle.std.specs.Prelude.{◌≡◌, Option, List, refl}
+use Rattle.std.specs.Prelude.{◌≡◌, Option, refl}
 use Rattle.std.specs.Coded.{Coded, code_by, coded×, coded_option}
 use Rattle.std.proofs.Common.{ap}
 use base.Stored.{Gv, gnil, gcons}

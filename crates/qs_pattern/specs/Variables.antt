@@ -1,5 +1,5 @@
 -- Variables. A variable is a letter and a number; its letter says what it stands for.
-use Rattle.std.specs.Prelude.{ℕ, ◌≤◌, Bool, ◌&&◌, ◌||◌, ◌==◌, nat_le, not, filter, IsTrue, List, [], ◌∷◌}
+use Rattle.std.specs.Prelude.{◌≤◌, Bool, ◌&&◌, ◌==◌, not, filter, List, [], ◌∷◌}
 use Rattle.qs_pattern.specs.declared.variable.Var.{Var}
 
 -- A label variable has a letter from A to F and stands for one label.
