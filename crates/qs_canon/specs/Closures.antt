@@ -1,7 +1,7 @@
 -- Closures of the program.
-use Rattle.std.specs.Prelude.{ℕ, ◌≡◌, ◌<◌, List, length}
+use Rattle.std.specs.Prelude.{ℕ, ◌≡◌, List, length}
 use Rattle.qs_pattern.specs.Rules.{Rule}
-use Rattle.qs_graph.specs.Graphs.{QGraph, IsEntry, IsExit, IsValid}
+use Rattle.qs_graph.specs.Graphs.{QGraph, IsEntry, IsExit}
 use Rattle.qs_canon.specs.Rounds.{Stage, Closes}
 
 -- A stage, with the entry and the exit of its graph and the number of arcs with which it started.

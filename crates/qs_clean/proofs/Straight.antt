@@ -1,5 +1,5 @@
 -- Cleaning where every arc leads from the node 1 to the node 2, and the first arc alone is denoted.
-use Rattle.std.proofs.Common.{◌≡◌, ℕ, ◌+◌, ◌<◌, ◌⊎◌, List, [], ◌∷◌, length, refl, sym, ◌∙◌, ap, ◌↔◌, subst, inl, inr, ⊎_elim, arith, Some, slice_get}
+use Rattle.std.proofs.Common.{◌≡◌, ℕ, ◌<◌, List, [], ◌∷◌, refl, sym, ◌∙◌, ◌↔◌, subst, inl, inr, ⊎_elim, arith, Some, slice_get}
 use Rattle.std.proofs.lemmas.Bool.{cases_lt}
 use Rattle.qs_tree.specs.Lists.{◌∈◌}
 use Rattle.qs_graph.specs.Graphs.{Arc}

@@ -1,5 +1,5 @@
 -- Within one graph, firings with equal keys are equal.
-use Rattle.std.proofs.Common.{◌≡◌, ℕ, List, sym, ◌∙◌, ap, subst, Some, slice_get}
+use Rattle.std.proofs.Common.{◌≡◌, List, sym, ◌∙◌, ap, subst, Some, slice_get}
 use Rattle.qs_pattern.specs.Rules.{Rule, AllInClass}
 use Rattle.qs_pattern.specs.Substitutions.{forest_lengths}
 use Rattle.qs_pattern.specs.Instances.{IsMatch}

@@ -1,5 +1,5 @@
 -- The order of firings.
-use Rattle.std.proofs.Common.{◌≡◌, ◌⊎◌, List, [], ◌∷◌, Ordering, refl, sym, ◌∙◌, ap, subst, inl, inr, ⊎_elim, ℕ, ◌<◌}
+use Rattle.std.proofs.Common.{◌≡◌, ◌⊎◌, List, [], ◌∷◌, Ordering, refl, sym, ◌∙◌, ap, inl, inr, ⊎_elim, ℕ, ◌<◌}
 use Rattle.std.specs.declared.cmp.Ordering.TheVariants.{Less, Equal, Greater}
 use Rattle.std.specs.Ordering.{ordering_reverse, ordering_then, nat_cmp}
 use Rattle.std.specs.Cmp.{IsTotalOrder, nat_cmp_is}
