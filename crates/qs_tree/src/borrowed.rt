@@ -1,4 +1,4 @@
-//! Trees and lists of trees as borrowed runs of cells.
+//! Trees and lists of trees as borrowed runs of cells. Their calls take no memory.
 
 ghost use Rattle.std.specs.Prelude.{◌≡◌, ◌↔◌, ◌∷◌, [], length, IsTrue, IsNone, IfSome};
 ghost use Rattle.qs_tree.specs.Trees.{Tree, kids};
@@ -6,14 +6,15 @@ ghost use Rattle.qs_tree.specs.Cells.{IsTree, IsForest, tree_of, trees_of};
 
 use crate::cell::{Cell, Label};
 
-/// One tree.
+/// A borrowed tree: its cells, the root's first. The type keeps that they are the cells of one tree.
 #[derive(Clone, Copy)]
 pub struct TreeRef<'a> {
     pub cells: &'a [Cell],
     ghost one_tree: { IsTree cells.now },
 }
 
-/// A list of trees.
+/// A borrowed list of trees: the cells of its trees, one tree behind the other. The type keeps that they are the cells
+/// of a list of trees.
 #[derive(Clone, Copy)]
 pub struct ForestRef<'a> {
     pub cells: &'a [Cell],
@@ -21,12 +22,14 @@ pub struct ForestRef<'a> {
 }
 
 impl<'a> TreeRef<'a> {
+    /// The label of the tree.
     pub fn root(self) -> Label
         ensures { result ≡ (tree_of self.entry.cells.now).root }
     {
         self.cells[0].label
     }
 
+    /// The subtrees of the tree, from left to right.
     pub fn kids(self) -> ForestRef<'a>
         ensures { trees_of result.cells.now ≡ kids (tree_of self.entry.cells.now) }
     {
@@ -37,7 +40,7 @@ impl<'a> TreeRef<'a> {
 }
 
 impl<'a> ForestRef<'a> {
-    /// The first tree and the others.
+    /// The first tree and the list of the others; None exactly where the list is empty.
     pub fn first_rest(self) -> Option<(TreeRef<'a>, ForestRef<'a>)>
         ensures none { IsNone result ↔ (trees_of self.entry.cells.now ≡ []) }
         ensures some { IfSome result (λ p. trees_of self.entry.cells.now ≡ tree_of p.0.cells.now ∷ trees_of p.1.cells.now) }
@@ -47,7 +50,7 @@ impl<'a> ForestRef<'a> {
         Some((TreeRef { cells: tree }, ForestRef { cells: rest }))
     }
 
-    /// The number of trees.
+    /// The number of trees in the list.
     pub fn len(self) -> usize
         ensures { result ≡ length (trees_of self.entry.cells.now) }
     {
@@ -63,14 +66,14 @@ impl<'a> ForestRef<'a> {
     }
 }
 
-/// Whether two trees are equal.
+/// Whether the two trees are equal: their labels are, and their subtrees one by one.
 pub fn same(a: TreeRef<'_>, b: TreeRef<'_>) -> bool
     ensures { IsTrue result ↔ (tree_of a.entry.cells.now ≡ tree_of b.entry.cells.now) }
 {
     a.cells == b.cells
 }
 
-/// Whether two lists of trees are equal.
+/// Whether the two lists are equal: they have the same trees in the same order.
 pub fn same_forest(a: ForestRef<'_>, b: ForestRef<'_>) -> bool
     ensures { IsTrue result ↔ (trees_of a.entry.cells.now ≡ trees_of b.entry.cells.now) }
 {

@@ -1,4 +1,6 @@
 //! Trees and lists of trees that own their cells.
+//!
+//! `Memory` comes only where memory is wanting. A list to which a call could not append is as it was.
 
 ghost use Rattle.std.specs.Prelude.{◌≡◌, [], ◌∷◌, ◌++◌, IfOk, OnOk, OnErr};
 ghost use Rattle.qs_tree.specs.Trees.{node};
@@ -6,10 +8,10 @@ ghost use Rattle.qs_tree.specs.Cells.{tree_of, trees_of};
 
 use crate::borrowed::{ForestRef, TreeRef};
 use crate::cell::{Cell, Label};
-use std::alloc::{AllocError, Global};
+use std::alloc::{AllocError as Memory, Global};
 use std::marker::Model;
 
-/// A tree.
+/// A tree: a label and a list of trees, its subtrees (Colmerauer 1970).
 #[derive(Drop)]
 pub struct Tree {
     cells: Vec<Cell>,
@@ -29,8 +31,8 @@ impl Model for Tree {
 }
 
 impl Tree {
-    /// The tree of one node.
-    pub fn leaf(alloc: Global, label: Label) -> Result<Tree, AllocError>
+    /// The tree with this label and no subtree.
+    pub fn leaf(alloc: Global, label: Label) -> Result<Tree, Memory>
         ensures { IfOk result (λ t. t ≡ node label []) }
     {
         let mut cells = Vec::new(alloc);
@@ -39,7 +41,7 @@ impl Tree {
     }
 
     /// The tree with this label and these subtrees.
-    pub fn node(alloc: Global, label: Label, kids: ForestRef<'_>) -> Result<Tree, AllocError>
+    pub fn node(alloc: Global, label: Label, kids: ForestRef<'_>) -> Result<Tree, Memory>
         ensures { IfOk result (λ t. t ≡ node label (trees_of kids.entry.cells.now)) }
     {
         let extent = kids.cells.len() + 1;
@@ -49,7 +51,8 @@ impl Tree {
         Ok(Tree { cells })
     }
 
-    pub fn of(alloc: Global, tree: TreeRef<'_>) -> Result<Tree, AllocError>
+    /// A copy of the tree.
+    pub fn of(alloc: Global, tree: TreeRef<'_>) -> Result<Tree, Memory>
         ensures { IfOk result (λ t. t ≡ tree_of tree.entry.cells.now) }
     {
         Ok(Tree {
@@ -57,13 +60,15 @@ impl Tree {
         })
     }
 
+    /// The same tree, borrowed. Takes no memory.
     pub fn view(&self) -> TreeRef<'_>
         ensures { tree_of result.cells.now ≡ self.now }
     {
         TreeRef { cells: &self.cells }
     }
 
-    pub fn copy(&self) -> Result<Tree, AllocError>
+    /// An equal tree.
+    pub fn copy(&self) -> Result<Tree, Memory>
         ensures { IfOk result (λ t. t ≡ self.now) }
     {
         Ok(Tree {
@@ -72,7 +77,7 @@ impl Tree {
     }
 }
 
-/// A list of trees.
+/// A list of trees: a forest (Colmerauer 1970).
 #[derive(Drop)]
 pub struct Forest {
     cells: Vec<Cell>,
@@ -94,7 +99,7 @@ impl Model for Forest {
 }
 
 impl Forest {
-    /// The empty list.
+    /// The empty list. Takes no memory.
     pub fn empty(alloc: Global) -> Forest
         ensures { result ≡ [] }
     {
@@ -103,8 +108,8 @@ impl Forest {
         }
     }
 
-    /// Appends a copy of the tree.
-    pub fn push(&mut self, tree: TreeRef<'_>) -> Result<(), AllocError>
+    /// Appends a copy of the tree. After `Memory` the list is as before.
+    pub fn push(&mut self, tree: TreeRef<'_>) -> Result<(), Memory>
         ensures ok { OnOk result (self.new ≡ self.old ++ tree_of tree.entry.cells.now ∷ []) }
         ensures err { OnErr result (self.new ≡ self.old) }
     {
@@ -112,8 +117,8 @@ impl Forest {
         Ok(())
     }
 
-    /// Appends copies of all trees of the list.
-    pub fn splice(&mut self, forest: ForestRef<'_>) -> Result<(), AllocError>
+    /// Appends copies of all trees of the other list. After `Memory` the list is as before.
+    pub fn splice(&mut self, forest: ForestRef<'_>) -> Result<(), Memory>
         ensures ok { OnOk result (self.new ≡ self.old ++ trees_of forest.entry.cells.now) }
         ensures err { OnErr result (self.new ≡ self.old) }
     {
@@ -121,7 +126,8 @@ impl Forest {
         Ok(())
     }
 
-    pub fn of(alloc: Global, forest: ForestRef<'_>) -> Result<Forest, AllocError>
+    /// A copy of the list.
+    pub fn of(alloc: Global, forest: ForestRef<'_>) -> Result<Forest, Memory>
         ensures { IfOk result (λ f. f ≡ trees_of forest.entry.cells.now) }
     {
         Ok(Forest {
@@ -129,13 +135,15 @@ impl Forest {
         })
     }
 
+    /// The same list, borrowed. Takes no memory.
     pub fn view(&self) -> ForestRef<'_>
         ensures { trees_of result.cells.now ≡ self.now }
     {
         ForestRef { cells: &self.cells }
     }
 
-    pub fn copy(&self) -> Result<Forest, AllocError>
+    /// An equal list.
+    pub fn copy(&self) -> Result<Forest, Memory>
         ensures { IfOk result (λ f. f ≡ self.now) }
     {
         Ok(Forest {
