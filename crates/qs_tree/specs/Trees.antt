@@ -1,27 +1,30 @@
--- A tree is a label and a list of trees. A data type of this language cannot hold a `List` of itself, so a list of
--- trees is stored as a `Forest`, and `kids` and `node` give and take it as a `List`.
+-- A tree is a label and a list of trees (Colmerauer 1970). A data type of this language cannot hold a `List` of itself,
+-- so a list of trees is stored as a `Forest`, and `kids` and `node` give and take it as a `List`.
 use Rattle.std.specs.Prelude.{◌≡◌, ℕ, ◌+◌, List, [], ◌∷◌, refl}
 use Rattle.std.proofs.Common.{ap, suc}
 use Rattle.qs_tree.specs.declared.cell.Label.{Label}
 
--- no tree, or a tree by its label and its subtrees, and the trees behind it
+-- a list of trees: no tree; or a first tree, by its label and its subtrees, and the trees behind it
 pub data Forest : Type 0 where
   no_tree : Forest
   first_tree : Label → Forest → Forest → Forest
 
+-- a tree: its label and its subtrees
 pub record Tree : Type 0 where
   pub root : Label
   pub subtrees : Forest
 
--- the trees of a forest, first to last
+-- a `Forest` as a `List`
 abbrev pub trees : Forest → List Tree
 trees no_tree = []
 trees (first_tree l k r) = record { root = l; subtrees = k } ∷ trees r
 
+-- a `List` as a `Forest`
 abbrev pub forest : List Tree → Forest
 forest [] = no_tree
 forest (t ∷ ts) = first_tree t.root t.subtrees (forest ts)
 
+-- the two are inverse to each other
 pub forest-trees : (g : Forest) → forest (trees g) ≡ g
 forest-trees no_tree = refl
 forest-trees (first_tree l k r) = ap (λ g. first_tree l k g) (forest-trees r)
@@ -30,7 +33,7 @@ pub trees-forest : (ts : List Tree) → trees (forest ts) ≡ ts
 trees-forest [] = refl
 trees-forest (t ∷ ts) = ap (λ us. t ∷ us) (trees-forest ts)
 
--- the subtrees of a tree
+-- the subtrees of a tree, from left to right
 abbrev pub kids : Tree → List Tree
 kids t = trees t.subtrees
 
@@ -43,7 +46,7 @@ abbrev pub size : Forest → ℕ
 size no_tree = 0
 size (first_tree l k r) = suc (size k + size r)
 
--- one list of trees behind another
+-- the trees of two lists, one list behind the other
 abbrev pub join : Forest → Forest → Forest
 join no_tree h = h
 join (first_tree l k r) h = first_tree l k (join r h)

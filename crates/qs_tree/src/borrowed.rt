@@ -70,7 +70,7 @@ impl<'a> ForestRef<'a> {
 pub fn same(a: TreeRef<'_>, b: TreeRef<'_>) -> bool
     ensures { IsTrue result ↔ (tree_of a.entry.cells.now ≡ tree_of b.entry.cells.now) }
 {
-    a.cells == b.cells
+    a.root() == b.root() && same_forest(a.kids(), b.kids())
 }
 
 /// Whether the two lists are equal: they have the same trees in the same order.
