@@ -1,0 +1,4 @@
+pub mod SimpleTexts
+pub mod Named
+pub mod Fronts
+pub mod Interned
