@@ -1,6 +1,7 @@
 -- What is made of the front of a simple text: labels whose numbers stand for the texts that were read, and rules and a
 -- graph of such labels. `read_simple` is proved against `SimpleTexts`, and not against this.
-use Rattle.std.specs.Prelude.{◌≡◌, ℕ, ◌<◌, ◌≤◌, List, [], ◌∷◌, ◌++◌, length, map, fold, flat_map, slice_get, Some, None}
+use Rattle.std.specs.Prelude.{◌≡◌, ℕ, ◌<◌, ◌≤◌, List, [], ◌∷◌, ◌++◌, length, map, fold, flat_map, slice_get, codes, nat_eq, true, Some, None}
+use Rattle.std.specs.List.{starts_with}
 use Rattle.qs_tree.specs.declared.cell.Label.{Label}
 use Rattle.qs_tree.specs.Trees.{node}
 use Rattle.qs_pattern.specs.declared.pattern.Head.TheVariants as head
@@ -74,6 +75,7 @@ pub record ReadsRules (old new : List (List ℕ)) (bytes : List ℕ) (rules : Li
   pub written : List WrittenRule
   pub well_formed : AreWrittenRules written
   pub text : bytes ≡ flat_map rule_line written ++ rest
+  pub at_dash : starts_with nat_eq rest (codes "-") ≡ true
   pub names : new ≡ fold added old (flat_map (λ w. w.left ++ w.right) written)
   pub are : AreRulesOf new rules written
 

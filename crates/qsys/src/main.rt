@@ -1,6 +1,7 @@
 //! The program.
 #![tactic(auto)]
 
+pub mod laws;
 mod making;
 mod scanning;
 mod simple;
