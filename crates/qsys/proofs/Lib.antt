@@ -6,3 +6,6 @@ pub mod TextLemmas
 pub mod NameLemmas
 pub mod PlainLemmas
 pub mod RowSteps
+pub mod RuleSteps
+pub mod Meaning
+pub mod GraphSteps

@@ -239,7 +239,7 @@ pub record IsChain (w : WrittenChain) : Type 0 where
   pub chain : IsRow 65536 w.texts
   pub differ : w.from ≢ w.to
 
-abbrev end_step : ℕ → List (List ℕ) → ℕ → List ℕ → Option WrittenChain
+abbrev pub end_step : ℕ → List (List ℕ) → ℕ → List ℕ → Option WrittenChain
 end_step from texts to rest = cond (eqb from to || not (eqb (length rest) 0)) None (Some (record { from = from; texts = texts; to = to }))
 
 ends_chain : (rest : List ℕ) → EndsRow (space ++ (dash ++ rest))
@@ -288,6 +288,9 @@ graph_reads bytes b from f c texts t l to e rest begins first goes row more seco
     (then_at (row_step from) (row_at 65536 c) (texts, t) (Some w) row
     (then_at (to_step from texts) (behind space t) l (Some w) more
     (then_at (end_at from texts) (mark_at l) (to, e) (Some w) second (then_at (end_step from texts to) (behind fin e) rest (Some w) ends last))))))
+
+pub end_reads : (from : ℕ) (texts : List (List ℕ)) (to : ℕ) (rest : List ℕ) → from ≢ to → eqb (length rest) 0 ≡ true → end_step from texts to rest ≡ Some (record { from = from; texts = texts; to = to })
+end_reads from texts to rest differ none = cond-false (eqb from to || not (eqb (length rest) 0)) _ _ (or_from (eqb from to) (not (eqb (length rest) 0)) (ne_eqb from to differ) (ap not none))
 
 pub record IsGraphFront (bytes : List ℕ) (w : WrittenChain) : Type 0 where
   pub whole : bytes ≡ graph_text w

@@ -1,5 +1,5 @@
 -- Names to which texts are added: each text has one number, and keeps it.
-use Rattle.std.proofs.Common.{◌≡◌, ◌≢◌, ℕ, zero, suc, ◌+◌, ◌<◌, ◌≤◌, Bool, true, false, cond, not, ◌||◌, List, [], ◌∷◌, ◌++◌, length, map, get_or, Option, Some, None, refl, sym, ap, ◌∙◌, subst, inl, inr, ⊎_elim, arith, append_assoc, ltb}
+use Rattle.std.proofs.Common.{◌≡◌, ◌≢◌, ℕ, zero, suc, ◌+◌, ◌<◌, ◌≤◌, Bool, true, false, cond, not, ◌||◌, List, [], ◌∷◌, ◌++◌, length, map, get_or, Option, Some, None, refl, sym, ap, ◌∙◌, subst, inl, inr, ⊎_elim, arith, append_assoc, length-append, ltb}
 use Rattle.std.specs.Prelude.{◌⊎◌, fold, position, slice_get, bytes_eq, unwrap_or, Contains}
 use Rattle.std.specs.List.{list_any, prefix_len, position_or_len}
 use Rattle.std.proofs.lemmas.List.{append-nil}
@@ -157,3 +157,11 @@ pub label_stands : (names : List (List ℕ)) (text : List ℕ) → AreDistinct n
 label_stands names text distinct k e =
     let l : Label = record { 0 = k } in
     ap (λ (m : Label). slice_get names m.0) (sym (label_of_is names l text distinct e)) ∙ e
+
+-- one text adds one name at most
+pub added_length : (names : List (List ℕ)) (text : List ℕ) → length (added names text) ≤ length names + 1
+added_length names text = by_test (list_any (bytes_eq text) names) refl
+  where
+    by_test : (t : Bool) → list_any (bytes_eq text) names ≡ t → length (added names text) ≤ length names + 1
+    by_test true e = let same = ap length (added_there names text e) in omega arith
+    by_test false e = let one = ap length (added_new names text e) in let long = length-append names (text ∷ []) in omega arith

@@ -8,6 +8,7 @@ use Rattle.qs_tree.specs.declared.cell.Label.{Label}
 use Rattle.qsys.specs.SimpleTexts.{added}
 use Rattle.qsys.specs.Fronts.{behind, label_at, label_before, row_at}
 use Rattle.qsys.specs.Interned.{AreLabelsOf, ReadsRow}
+use Rattle.qsys.proofs.NameLemmas.{added_length}
 use Rattle.qsys.proofs.FrontLemmas.{then_at, then_none, Row, plus, others_at, row_step, row_at-suc, row_at-zero, no_row}
 use Rattle.qsys.proofs.PlainLemmas.{labels_length, labels_push, labels_keep}
 
@@ -107,3 +108,11 @@ row_full most old names bytes labels rest so full =
     let long = labels_length names labels so.texts so.are in
     let n : most - length so.texts ≡ zero = omega arith in
     so.front ∙ ap (λ k. further so.texts (row_at k rest)) n ∙ ap (further so.texts) (row_at-zero rest)
+
+-- there are at least as many bytes as new names
+pub row_room : (n : ℕ) (names new : List (List ℕ)) (text rest after more : List ℕ) → new ≡ added names text → length names + length rest ≤ n → length after < length rest → length more ≤ length after
+    → length new + length more ≤ n
+row_room n names new text rest after more adds room shorter less =
+    let e = ap length adds in
+    let one = added_length names text in
+    omega arith

@@ -15,7 +15,7 @@ same : {X : Type 0} (x y : X) → Some x ≡ Some y → x ≡ y
 same x y e = cc
 
 -- no rule begins with a dash
-rule_at-dash : (rest : List ℕ) → rule_at (45 ∷ rest) ≡ None
+pub rule_at-dash : (rest : List ℕ) → rule_at (45 ∷ rest) ≡ None
 rule_at-dash rest = rule_none (45 ∷ rest) (no_row 16 (45 ∷ rest) refl)
 
 pub no_rule : (rest : List ℕ) → starts_with nat_eq rest (codes "-") ≡ true → rule_at rest ≡ None
@@ -98,7 +98,7 @@ no_graph bytes name rest last rules e text are dash none simple =
     some_none _ (sym none ∙ ap graph_at split.1 ∙ graph_found (chain_of p) (is_chain p w))
 
 -- the bytes are simple where all three are there
-pub all_there : (bytes name rest last : List ℕ) (rules : List WrittenRule) (chain : WrittenChain) → name_at bytes ≡ Some (name, rest) → rest ≡ lines rules ++ last → AreWrittenRules rules
+abbrev pub all_there : (bytes name rest last : List ℕ) (rules : List WrittenRule) (chain : WrittenChain) → name_at bytes ≡ Some (name, rest) → rest ≡ lines rules ++ last → AreWrittenRules rules
     → graph_at last ≡ Some chain → IsSimple bytes
 all_there bytes name rest last rules chain e text are g =
     let front = name_is bytes name rest e in

@@ -3,7 +3,7 @@
 ghost use Rattle.std.specs.Prelude.{◌≡◌, ◌<◌, ◌≤◌, ◌+◌, None, Some, MatchOption, IfSome, IfOk, IfErr, length, option_copied};
 ghost use Rattle.std.specs.List.{prefix_len};
 ghost use Rattle.std.specs.Char.{is_ascii_digit};
-ghost use Rattle.qsys.specs.SimpleTexts.{is_label_byte};
+ghost use Rattle.qsys.specs.SimpleTexts.{is_label_byte, node_of};
 ghost use Rattle.qsys.specs.Fronts.{behind, label_at, row_at, name_at, rule_at, number_after, mark_at, graph_at, AreRulesThenDash};
 ghost use Rattle.qsys.specs.Interned.{ReadsName, ReadsRow, ReadsRule, ReadsRules, ReadsGraph};
 
@@ -89,7 +89,8 @@ fn number(bytes: &[u8], most: u32) -> Option<u32>
 
 /// The node mark at the front, and the bytes behind it.
 fn mark(bytes: &[u8]) -> Option<(u32, &[u8])>
-    ensures { MatchOption result (mark_at bytes.now ≡ None) (λ r. mark_at bytes.now ≡ Some (r.0, r.1.now)) }
+    ensures value { MatchOption result (mark_at bytes.now ≡ None) (λ r. mark_at bytes.now ≡ Some (r.0, r.1.now)) }
+    ensures shorter { IfSome result (λ r. length r.1.now < length bytes.now) }
 {
     let digits = behind(bytes, b"-")?;
     let len = digit_len(digits);
@@ -190,6 +191,14 @@ pub fn rules<'a>(
     Ok((rules, rest))
 }
 
+/// The graph's number of the node that is written with the number `n`, where the other one is written with `other`.
+fn node_number(n: u32, other: u32) -> u32
+    ensures value { result ≡ node_of n other }
+    ensures some { 0 < result }
+{
+    if n < other { 1 } else { 2 }
+}
+
 /// Reads the three lines of the graph, which are all of the bytes.
 pub fn graph(alloc: Global, names: &mut Names, bytes: &[u8]) -> Result<Graph, SimpleEnd>
     requires { length names.old + length bytes.now ≤ 4194304 }
@@ -207,6 +216,6 @@ pub fn graph(alloc: Global, names: &mut Names, bytes: &[u8]) -> Result<Graph, Si
     if from == to || !rest.is_empty() {
         return Err(SimpleEnd::NotYetRead);
     }
-    let (from, to) = if from < to { (1, 2) } else { (2, 1) };
-    Ok(plain_graph(alloc, from, &labels, to)?)
+    let graph = plain_graph(alloc, node_number(from, to), &labels, node_number(to, from))?;
+    Ok(graph)
 }
