@@ -1,2 +1,4 @@
 pub mod Lines
 pub mod Lay
+pub mod Paths
+pub mod Adding

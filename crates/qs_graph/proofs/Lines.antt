@@ -37,24 +37,24 @@ chain_rises rank a (t ∷ u ∷ ts) next b low same high arc (inr i) =
     chain_rises rank next (u ∷ ts) (next + 1) b (omega (arith, same next (omega arith))) (λ n h. same n (omega arith)) (omega arith) arc i
 
 -- one of the new nodes
-abbrev IsInner : ℕ → List Tree → ℕ → Type 0
+abbrev pub IsInner : ℕ → List Tree → ℕ → Type 0
 IsInner next ts n = (next ≤ n) × (n + 1 < next + length ts)
 
-targets : (a : ℕ) (ts : List Tree) (next b : ℕ) (arc : Arc) → arc ∈ chain a ts next b → (arc.to ≡ b) ⊎ IsInner next ts arc.to
+pub targets : (a : ℕ) (ts : List Tree) (next b : ℕ) (arc : Arc) → arc ∈ chain a ts next b → (arc.to ≡ b) ⊎ IsInner next ts arc.to
 targets a [] next b arc i = absurd i
 targets a (t ∷ []) next b arc (inl e) = inl (ap (λ (x : Arc). x.to) e)
 targets a (t ∷ []) next b arc (inr i) = absurd i
 targets a (t ∷ u ∷ ts) next b arc (inl e) = let f = ap (λ (x : Arc). x.to) e in inr (omega arith, omega arith)
 targets a (t ∷ u ∷ ts) next b arc (inr i) = ⊎_elim inl (λ n. inr (omega arith, omega arith)) (targets next (u ∷ ts) (next + 1) b arc i)
 
-sources : (a : ℕ) (ts : List Tree) (next b : ℕ) (arc : Arc) → arc ∈ chain a ts next b → (arc.from ≡ a) ⊎ IsInner next ts arc.from
+pub sources : (a : ℕ) (ts : List Tree) (next b : ℕ) (arc : Arc) → arc ∈ chain a ts next b → (arc.from ≡ a) ⊎ IsInner next ts arc.from
 sources a [] next b arc i = absurd i
 sources a (t ∷ []) next b arc (inl e) = inl (ap (λ (x : Arc). x.from) e)
 sources a (t ∷ []) next b arc (inr i) = absurd i
 sources a (t ∷ u ∷ ts) next b arc (inl e) = inl (ap (λ (x : Arc). x.from) e)
 sources a (t ∷ u ∷ ts) next b arc (inr i) = ⊎_elim (λ e. inr (omega arith, omega arith)) (λ n. inr (omega arith, omega arith)) (sources next (u ∷ ts) (next + 1) b arc i)
 
-into : (a : ℕ) (ts : List Tree) (next b n : ℕ) → 0 < length ts → (n ≡ b) ⊎ IsInner next ts n → (arc : Arc) × (arc ∈ chain a ts next b) × (arc.to ≡ n)
+pub into : (a : ℕ) (ts : List Tree) (next b n : ℕ) → 0 < length ts → (n ≡ b) ⊎ IsInner next ts n → (arc : Arc) × (arc ∈ chain a ts next b) × (arc.to ≡ n)
 into a [] next b n h c = absurd (omega arith)
 into a (t ∷ []) next b n h (inl e) = (record { from = a; to = b; tree = t }, inl refl, sym e)
 into a (t ∷ []) next b n h (inr i) = absurd (omega arith)
@@ -64,7 +64,7 @@ into a (t ∷ u ∷ ts) next b n h (inr i) = ⊎_elim
     (λ d. let (arc, j, f) = into next (u ∷ ts) (next + 1) b n (omega arith) (inr (omega arith, omega arith)) in (arc, inr j, f))
     (cases_order n next)
 
-out_of : (a : ℕ) (ts : List Tree) (next b n : ℕ) → 0 < length ts → (n ≡ a) ⊎ IsInner next ts n → (arc : Arc) × (arc ∈ chain a ts next b) × (arc.from ≡ n)
+pub out_of : (a : ℕ) (ts : List Tree) (next b n : ℕ) → 0 < length ts → (n ≡ a) ⊎ IsInner next ts n → (arc : Arc) × (arc ∈ chain a ts next b) × (arc.from ≡ n)
 out_of a [] next b n h c = absurd (omega arith)
 out_of a (t ∷ []) next b n h (inl e) = (record { from = a; to = b; tree = t }, inl refl, sym e)
 out_of a (t ∷ []) next b n h (inr i) = absurd (omega arith)

@@ -3,6 +3,7 @@
 ghost use Rattle.std.specs.Prelude.{◌≡◌, ◌<◌, ◌≤◌, ◌+◌, IfOk, length};
 ghost use Rattle.qs_graph.specs.Graphs.{IsValid, IsEntry, IsExit};
 ghost use Rattle.qs_graph.specs.Chains.{line_graph};
+ghost use Rattle.qs_graph.specs.Kept.{IsKept};
 
 use crate::edge::Edge;
 use qs_tree::Tree;
@@ -64,6 +65,20 @@ impl Graph {
         ensures { IsExit self.now result }
     {
         self.exit
+    }
+
+    /// The graph with the nodes 1 to `nodes` and these arcs, which have to make a valid graph of fewer than 4,294,967,295
+    /// arcs with this entry and this exit. Takes no memory.
+    pub fn of_valid(nodes: u32, entry: u32, exit: u32, edges: Vec<Edge>) -> Graph
+        requires { IsKept (record { nodes = nodes; arcs = edges.items }) entry exit }
+        ensures { result ≡ record { nodes = nodes; arcs = edges.items } }
+    {
+        Graph {
+            nodes,
+            entry,
+            exit,
+            edges,
+        }
     }
 
     /// The chain of the trees from the node `from` to the node `to`, which are 1 and 2 in either order, with inner nodes
