@@ -3,3 +3,4 @@ pub mod Rounds
 pub mod Sorting
 pub mod Existence
 pub mod Progress
+pub mod Keeping

@@ -1,10 +1,11 @@
 //! Laws of rounds and closures, over their definitions alone.
 
-ghost use Rattle.std.specs.Prelude.{◌≡◌, ◌⊎◌, ℕ, List};
-ghost use Rattle.qs_pattern.specs.Rules.{Rule, AllInClass};
-ghost use Rattle.qs_graph.specs.Graphs.{QGraph};
+ghost use Rattle.std.specs.Prelude.{◌≡◌, ◌⊎◌, ◌↔◌, ℕ, List};
+ghost use Rattle.qs_tree.specs.Lists.{◌∈◌};
+ghost use Rattle.qs_pattern.specs.Rules.{Rule, IsAccepted, AllInClass};
+ghost use Rattle.qs_graph.specs.Graphs.{QGraph, IsPath, IsValid, IsEntry, IsExit};
 ghost use Rattle.qs_firing.specs.Firings.{Firing};
-ghost use Rattle.qs_canon.specs.Rounds.{Round, HasRounds, Stage, Closes, ClosesWithin, Needs};
+ghost use Rattle.qs_canon.specs.Rounds.{Round, HasRounds, Rounds, Stage, Closes, ClosesWithin, Needs, firings};
 
 /// A round is determined by the rules, the graph and the firings that are done.
 pub fn one_round()
@@ -23,4 +24,14 @@ pub fn one_closure()
     ensures one { (R : List Rule) (G : QGraph) (C D : Stage) → Closes R G C → Closes R G D → C ≡ D }
     ensures some { (R : List Rule) → AllInClass R → (G : QGraph) (L : ℕ) → ClosesWithin R G L ⊎ Needs R G L }
     ensures not_both { (R : List Rule) (G : QGraph) (L : ℕ) → ClosesWithin R G L → Needs R G L → ⊥ }
+{}
+
+/// From a valid graph accepted rules reach valid graphs alone, with the entry and the exit of the start, and the path of
+/// each done firing is a path of the graph reached.
+pub fn stages_stay_valid()
+    ensures valid { (R : List Rule) → ((rule : Rule) → rule ∈ R → IsAccepted rule) → (G : QGraph) → IsValid G → (n : ℕ) (S : Stage) → Rounds R G n S → IsValid S.graph }
+    ensures entry { (R : List Rule) → ((rule : Rule) → rule ∈ R → IsAccepted rule) → (G : QGraph) → IsValid G → (n : ℕ) (S : Stage) → Rounds R G n S → (m : ℕ) → IsEntry G m ↔ IsEntry S.graph m }
+    ensures exit { (R : List Rule) → ((rule : Rule) → rule ∈ R → IsAccepted rule) → (G : QGraph) → IsValid G → (n : ℕ) (S : Stage) → Rounds R G n S → (m : ℕ) → IsExit G m ↔ IsExit S.graph m }
+    ensures paths { (R : List Rule) → ((rule : Rule) → rule ∈ R → IsAccepted rule) → (G : QGraph) → IsValid G → (n : ℕ) (S : Stage) → Rounds R G n S
+        → (f : Firing) → f ∈ firings S → (a : ℕ) × ((b : ℕ) × IsPath S.graph.arcs a f.path b) }
 {}
