@@ -1,3 +1,4 @@
 pub mod Cleaning
 pub mod Cascades
 pub mod Examples
+pub mod Links

@@ -3,5 +3,6 @@
 
 pub mod examples;
 pub mod laws;
+mod links;
 
 pub use std::alloc::AllocError as Memory;
