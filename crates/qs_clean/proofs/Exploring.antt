@@ -107,7 +107,7 @@ pub reaches_more : {links : List Link} {a b : ℕ} → Reaches links a b → (li
 reaches_more here link i e = onward link i e here
 reaches_more (onward first j f r) link i e = onward first j f (reaches_more r link i e)
 
-none_of-replicate : (m n : ℕ) → IsMarked (replicate m false) n → ⊥
+pub none_of-replicate : (m n : ℕ) → IsMarked (replicate m false) n → ⊥
 none_of-replicate zero n e = absurd cc
 none_of-replicate (suc m) zero e = absurd cc
 none_of-replicate (suc m) (suc n) e = none_of-replicate m n e

@@ -5,3 +5,5 @@ pub mod ExampleCleaning
 pub mod Exploring
 pub mod Grouping
 pub mod LinkSteps
+pub mod ArcSteps
+pub mod Places

@@ -70,3 +70,6 @@ explore_step links start groups node at targets marks before new_marks waiting r
     let x' : IsExploring links start marks (rest ++ node ∷ []) = subst (IsExploring links start marks) w x in
     let whole : take n (new_marks ++ drop (length new_marks) marks) ≡ new_marks = written_back new_marks marks n long in
     rw whole (exploring_on links start (map items_of groups) g marks new_marks rest new_waiting node x' a', long)
+
+pub member_read : {X : Type 0} (xs : List X) (i : ℕ) (x : X) → i < length xs → x ≡ get_or xs i x → x ∈ xs
+member_read xs i x l e = subst (λ y. y ∈ xs) (sym e) (member-get_or xs i x l)

@@ -2,3 +2,4 @@ pub mod Cleaning
 pub mod Cascades
 pub mod Examples
 pub mod Links
+pub mod Steps

@@ -2,6 +2,7 @@
 #![tactic(auto)]
 
 pub mod examples;
+mod arcs;
 pub mod laws;
 mod links;
 
