@@ -7,3 +7,4 @@ pub mod Grouping
 pub mod LinkSteps
 pub mod ArcSteps
 pub mod Places
+pub mod ArcLists
