@@ -8,3 +8,4 @@ pub mod LinkSteps
 pub mod ArcSteps
 pub mod Places
 pub mod ArcLists
+pub mod Kept
