@@ -6,18 +6,11 @@ use Rattle.qs_graph.proofs.Paths.{append_cases, append_right, leads-append}
 use Rattle.qs_canon.specs.Rounds.{Stage}
 use Rattle.qs_clean.specs.declared.links.Link.{Link}
 use Rattle.qs_clean.specs.Links.{IsMarked, Reaches, here, onward, turned}
-use Rattle.qs_clean.specs.Steps.{each_pair, free_link, keeps_mark, both}
+use Rattle.qs_clean.specs.Steps.{each_pair, free_link, keeps_mark, both, AreMarks}
 use Rattle.qs_clean.specs.Cleaning.{IsDenoted, Stays, IsEndOf}
 use Rattle.qs_clean.proofs.Exploring.{reaches_more}
 use Rattle.qs_clean.proofs.Places.{places, in_places, in_both_from, in_both_to}
 use Rattle.qs_clean.proofs.ArcLists.{in_arcs_at, to_arcs_at, FreeArc, free_from_link, link_from_free, KeptArc, kept_from_mark, mark_from_kept, turned_back, turned_there, reaches_on, reaches_last, reaches_first}
-
--- the marks of a closure
-pub record AreMarks (S : Stage) (entry exit : ℕ) (denoted from_entry to_exit : List Bool) : Type 0 where
-  pub denoted_len : length denoted ≡ length S.graph.arcs
-  pub denoted_are : (k : ℕ) → IsMarked denoted k ↔ IsDenoted S k
-  pub from_entry_are : (n : ℕ) → IsMarked from_entry n ↔ Reaches (each_pair free_link S.graph.arcs denoted) entry n
-  pub to_exit_are : (n : ℕ) → IsMarked to_exit n ↔ Reaches (map turned (each_pair free_link S.graph.arcs denoted)) exit n
 
 -- a path of arcs that are not denoted
 pub record FreePath (S : Stage) (a b : ℕ) : Type 0 where
@@ -98,18 +91,25 @@ module _ (S : Stage) (entry exit : ℕ) (denoted from_entry to_exit : List Bool)
   to_exit_to : (n : ℕ) → Reaches links n exit → IsMarked to_exit n
   to_exit_to n r = (are.to_exit_are n).1 (turned_there r)
 
-  kept_arc : (k : ℕ) → IsMarked kept_marks k → KeptArc arcs denoted from_entry to_exit k
+  pub kept_arc : (k : ℕ) → IsMarked kept_marks k → KeptArc arcs denoted from_entry to_exit k
   kept_arc k m = kept_from_mark from_entry to_exit arcs denoted k m
 
   -- an arc between a node that is reached from the entry and one that reaches the exit is kept
   keep : (a b : ℕ) → Reaches links entry a → FreeArc arcs denoted a b → Reaches links b exit → (k : ℕ) × (arc : Arc) × IsMarked kept_marks k × (slice_get arcs k ≡ Some arc) × (arc.from ≡ a) × (arc.to ≡ b)
-  keep a b r f s = (f.number, f.arc, mark_from_kept from_entry to_exit arcs denoted are.denoted_len f.number (record {
-    arc = f.arc;
-    is = f.is;
-    free = f.free;
-    from = (are.from_entry_are f.arc.from).1 (subst (Reaches links entry) (sym f.from) r);
-    to = to_exit_to f.arc.to (subst (λ n. Reaches links n exit) (sym f.to) s);
-  }), f.is, f.from, f.to)
+  keep a b r f s = (
+    f.number,
+    f.arc,
+    mark_from_kept from_entry to_exit arcs denoted are.denoted_len f.number (record {
+      arc = f.arc;
+      is = f.is;
+      free = f.free;
+      from = (are.from_entry_are f.arc.from).1 (subst (Reaches links entry) (sym f.from) r);
+      to = to_exit_to f.arc.to (subst (λ n. Reaches links n exit) (sym f.to) s);
+    }),
+    f.is,
+    f.from,
+    f.to,
+  )
 
   module _ (valid : IsValid S.graph) (is_entry : IsEntry S.graph entry) (is_exit : IsExit S.graph exit) where
     stays_from : (k : ℕ) → IsMarked kept_marks k → Stays S k
@@ -189,8 +189,8 @@ module _ (S : Stage) (entry exit : ℕ) (denoted from_entry to_exit : List Bool)
       let (r, s) = in_left n i in
       ⊎_elim inl
       (λ l.
-        let kept_one = keep l.0.from n l.2 (let f = free_from_link arcs denoted l.0 l.1 in record { number = f.number; arc = f.arc; is = f.is; free = f.free; from = f.from; to = f.to ∙ l.3 }) s in
-        inr (kept_one.0, kept_one.1, (in_places kept_marks kept_one.0).1 kept_one.2, kept_one.3, kept_one.5))
+      let kept_one = keep l.0.from n l.2 (let f = free_from_link arcs denoted l.0 l.1 in record { number = f.number; arc = f.arc; is = f.is; free = f.free; from = f.from; to = f.to ∙ l.3 }) s in
+      inr (kept_one.0, kept_one.1, (in_places kept_marks kept_one.0).1 kept_one.2, kept_one.3, kept_one.5))
       (reaches_last r)
 
   pub kept_out_of : (n : ℕ) → n ∈ left → (n ≡ exit) ⊎ ((k : ℕ) × (arc : Arc) × (k ∈ kept) × (slice_get arcs k ≡ Some arc) × (arc.from ≡ n))
@@ -198,8 +198,8 @@ module _ (S : Stage) (entry exit : ℕ) (denoted from_entry to_exit : List Bool)
       let (r, s) = in_left n i in
       ⊎_elim inl
       (λ l.
-        let kept_one = keep n l.0.to r (let f = free_from_link arcs denoted l.0 l.1 in record { number = f.number; arc = f.arc; is = f.is; free = f.free; from = f.from ∙ l.2; to = f.to }) l.3 in
-        inr (kept_one.0, kept_one.1, (in_places kept_marks kept_one.0).1 kept_one.2, kept_one.3, kept_one.4))
+      let kept_one = keep n l.0.to r (let f = free_from_link arcs denoted l.0 l.1 in record { number = f.number; arc = f.arc; is = f.is; free = f.free; from = f.from ∙ l.2; to = f.to }) l.3 in
+      inr (kept_one.0, kept_one.1, (in_places kept_marks kept_one.0).1 kept_one.2, kept_one.3, kept_one.4))
       (reaches_first s)
 
   module _ (some : ℕ) (some_kept : some ∈ kept) where
@@ -226,9 +226,9 @@ module _ (S : Stage) (entry exit : ℕ) (denoted from_entry to_exit : List Bool)
         ⊎_elim
         (λ e. (some, first.arc, some_kept, first.is, e))
         (λ m.
-          let r : Reaches links entry m.0.from = reaches_on (reaches_more f (record { from = first.arc.from; to = first.arc.to }) l refl) m.2 in
-          let kept_one = keep m.0.from exit r (let g = free_from_link arcs denoted m.0 m.1 in record { number = g.number; arc = g.arc; is = g.is; free = g.free; from = g.from; to = g.to ∙ m.3 }) here in
-          (kept_one.0, kept_one.1, (in_places kept_marks kept_one.0).1 kept_one.2, kept_one.3, kept_one.5))
+        let r : Reaches links entry m.0.from = reaches_on (reaches_more f (record { from = first.arc.from; to = first.arc.to }) l refl) m.2 in
+        let kept_one = keep m.0.from exit r (let g = free_from_link arcs denoted m.0 m.1 in record { number = g.number; arc = g.arc; is = g.is; free = g.free; from = g.from; to = g.to ∙ m.3 }) here in
+        (kept_one.0, kept_one.1, (in_places kept_marks kept_one.0).1 kept_one.2, kept_one.3, kept_one.5))
         (reaches_last (to_exit_from first.arc.to first.to))
 
     pub left_are : (n : ℕ) → n ∈ left ↔ IsEndOf (arcs_at S.graph.arcs kept) n
@@ -237,8 +237,8 @@ module _ (S : Stage) (entry exit : ℕ) (denoted from_entry to_exit : List Bool)
         there : n ∈ left → IsEndOf (arcs_at S.graph.arcs kept) n
         there i = ⊎_elim
             (λ e.
-              let (k, arc, m, is, to) = exit_end in
-              (arc, to_arcs_at arcs kept k arc m is, inr (e ∙ sym to)))
+            let (k, arc, m, is, to) = exit_end in
+            (arc, to_arcs_at arcs kept k arc m is, inr (e ∙ sym to)))
             (λ o. (o.1, to_arcs_at arcs kept o.0 o.1 o.2 o.3, inl (sym o.4)))
             (kept_out_of n i)
 

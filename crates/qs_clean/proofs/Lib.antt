@@ -9,3 +9,5 @@ pub mod ArcSteps
 pub mod Places
 pub mod ArcLists
 pub mod Kept
+pub mod Renumbered
+pub mod Closures

@@ -128,13 +128,13 @@ pub number_one : (i : ℕ) (ms : List ℕ) (n k : ℕ) → n ∈ ms → k ∈ ms
 number_one i [] n k jn jk e = absurd jn
 number_one i (m ∷ ms) n k jn jk e = ⊎_elim
     (λ sn. ⊎_elim
-      (λ sk. sym sn ∙ sk)
-      (λ pk. let hn = number_here i n m ms sn in let hk = number_behind i k m ms pk.0 in let r = number_range (i + 1) ms k pk.1 in absurd (omega arith))
-      (first_cases m ms k jk))
+    (λ sk. sym sn ∙ sk)
+    (λ pk. let hn = number_here i n m ms sn in let hk = number_behind i k m ms pk.0 in let r = number_range (i + 1) ms k pk.1 in absurd (omega arith))
+    (first_cases m ms k jk))
     (λ pn. ⊎_elim
-      (λ sk. let hn = number_behind i n m ms pn.0 in let hk = number_here i k m ms sk in let r = number_range (i + 1) ms n pn.1 in absurd (omega arith))
-      (λ pk. number_one (i + 1) ms n k pn.1 pk.1 (sym (number_behind i n m ms pn.0) ∙ e ∙ number_behind i k m ms pk.0))
-      (first_cases m ms k jk))
+    (λ sk. let hn = number_behind i n m ms pn.0 in let hk = number_here i k m ms sk in let r = number_range (i + 1) ms n pn.1 in absurd (omega arith))
+    (λ pk. number_one (i + 1) ms n k pn.1 pk.1 (sym (number_behind i n m ms pn.0) ∙ e ∙ number_behind i k m ms pk.0))
+    (first_cases m ms k jk))
     (first_cases m ms n jn)
 
 pub number_all : (i : ℕ) (ms : List ℕ) → Ascends ◌<◌ ms → (j : ℕ) → i ≤ j → j < i + length ms → (n : ℕ) × (n ∈ ms) × (number_in i ms n ≡ j)

@@ -1,10 +1,12 @@
 -- Cleaning. (This project's exact reading of Colmerauer's second step. The definition speaks of paths; the code marks
 -- nodes from both ends.)
-use Rattle.std.specs.Prelude.{ℕ, ◌+◌, ◌<◌, ◌≡◌, ◌↔◌, ◌⊎◌, ◌==◌, if◌then◌else◌, List, [], ◌∷◌, length, map}
+use Rattle.std.specs.Prelude.{ℕ, ◌+◌, ◌<◌, ◌≤◌, ◌≡◌, ◌↔◌, ◌⊎◌, ◌==◌, if◌then◌else◌, List, [], ◌∷◌, length, map, Option, Some, None}
 use Rattle.qs_tree.specs.Lists.{◌∈◌, Ascends}
-use Rattle.qs_graph.specs.Graphs.{Arc, QGraph, arcs_at, IsPath, IsEntry, IsExit}
+use Rattle.qs_pattern.specs.Rules.{Rule, IsAccepted}
+use Rattle.qs_graph.specs.Graphs.{Arc, QGraph, arcs_at, IsPath, IsEntry, IsExit, IsValid}
 use Rattle.qs_firing.specs.Firings.{Firing}
 use Rattle.qs_canon.specs.Rounds.{Stage, firings}
+use Rattle.qs_canon.specs.Closures.{ClosureOf, IsClosure}
 
 -- An arc is denoted where it is in the path of a done firing.
 pub record IsDenoted (S : Stage) (k : ℕ) : Type 0 where
@@ -45,3 +47,19 @@ pub record Cleans (S : Stage) (G : QGraph) : Type 0 where
   pub left_are : (n : ℕ) → n ∈ left ↔ IsEndOf (arcs_at S.graph.arcs kept) n
   pub nodes : G.nodes ≡ length left
   pub arcs : G.arcs ≡ map (renumbered left) (arcs_at S.graph.arcs kept)
+
+-- What is left of a stage: the graph that cleaning leaves, where it has an arc, and None where it has none.
+abbrev pub IsLeft : Stage → Option QGraph → Type 0
+IsLeft S None = (E : QGraph) × Cleans S E × (E.arcs ≡ [])
+IsLeft S (Some G) = Cleans S G × (0 < length G.arcs)
+
+-- c is a closure over a valid graph: some accepted rules close with c from some valid graph, and the numbers of the arcs of
+-- both fit the program's.
+pub record IsClosureOfValid (c : ClosureOf) : Type 0 where
+  pub rules : List Rule
+  pub accepted : (rule : Rule) → rule ∈ rules → IsAccepted rule
+  pub start : QGraph
+  pub valid : IsValid start
+  pub start_few : length start.arcs < 4294967295
+  pub closure : IsClosure rules start c
+  pub few : length c.stage.graph.arcs ≤ 4294967295

@@ -21,7 +21,7 @@ pub struct Numbers {
 }
 
 // For each arc, whether the path of a firing uses it.
-pub fn denoted(alloc: Global, firings: &[Placed], arcs: usize) -> Result<Vec<bool>, AllocError>
+pub fn denoted_arcs(alloc: Global, firings: &[Placed], arcs: usize) -> Result<Vec<bool>, AllocError>
     requires { (done : Done) → done ∈ firings.now → (k : ℕ) → k ∈ done.firing.path → k < arcs }
     ensures len { IfOk result (λ v. length v.items ≡ arcs) }
     ensures marks { IfOk result (λ v. (k : ℕ) → IsMarked v.items k ↔ IsUsed firings.now k) }
@@ -62,7 +62,7 @@ pub fn free_links(alloc: Global, edges: &[Edge], denoted: &[bool]) -> Result<Vec
 }
 
 // For each arc, whether it is kept.
-pub fn kept(
+pub fn kept_arcs(
     alloc: Global,
     edges: &[Edge],
     denoted: &[bool],
@@ -115,7 +115,7 @@ pub fn numbered(alloc: Global, marks: &[bool]) -> Result<Numbers, AllocError>
 }
 
 // The arcs that are kept, with the new numbers of their ends.
-pub fn left(
+pub fn left_arcs(
     alloc: Global,
     edges: &[Edge],
     kept: &[bool],

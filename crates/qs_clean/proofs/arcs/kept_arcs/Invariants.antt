@@ -1,6 +1,6 @@
 use Rattle.std.proofs.Common.{◌≡◌, ◌++◌, drop}
 use Rattle.qs_clean.specs.Steps.{each_pair, keeps_mark}
-use Rattle.qs_clean.proofs.arcs.kept.Given as goal
+use Rattle.qs_clean.proofs.arcs.kept_arcs.Given as goal
 
 abbrev pub invariant-loop-k : goal.invariant-loop-k
 invariant-loop-k l =

@@ -6,7 +6,7 @@ use Rattle.qs_canon.specs.Rounds.{Done}
 use Rattle.qs_clean.specs.Links.{IsMarked}
 use Rattle.qs_clean.proofs.LinkSteps.{member_read, written_back}
 use Rattle.qs_clean.proofs.ArcSteps.{firing_more, none_used}
-use Rattle.qs_clean.proofs.arcs.denoted.Goals as goal
+use Rattle.qs_clean.proofs.arcs.denoted_arcs.Goals as goal
 
 pub loop-placed-init : goal.loop-placed-init
 loop-placed-init c =
@@ -25,9 +25,8 @@ loop-placed-preserved c =
     let whole = written_back c.mark_path.new.marks c.loop-placed.marks.items c.loop-placed.marks.len long in
     let marks : (k : ℕ) → IsMarked c.mark_path.new.marks k ↔ (IsMarked c.loop-placed.marks.items k ⊎ (k ∈ c.placed.inside.firing.path)) =
     subst (λ ms. (k : ℕ) → IsMarked c.mark_path.new.marks k ↔ (IsMarked ms k ⊎ (k ∈ c.placed.inside.firing.path))) c.deref_mut.ensures.value c.mark_path.ensures in
-    rw whole
-    (
+    rw whole (
       omega (arith, long, c.loop-placed.marks.ok.0, c.loop-placed.invariant.0),
       firing_more c.args.firings.now c.loop-placed.placed-index c.placed-item.result c.placed.inside.firing.path c.loop-placed.marks.items c.mark_path.new.marks (omega arith) c.placed-item.is
-      (ap (λ (d : Done). d.firing.path) c.placed.view_is) c.loop-placed.invariant.1 marks,
+          (ap (λ (d : Done). d.firing.path) c.placed.view_is) c.loop-placed.invariant.1 marks,
     )
