@@ -11,3 +11,4 @@ pub mod ArcLists
 pub mod Kept
 pub mod Renumbered
 pub mod Closures
+pub mod Whole

@@ -3,7 +3,9 @@
 
 pub mod examples;
 mod arcs;
+mod cleaning;
 pub mod laws;
 mod links;
 
+pub use cleaning::clean;
 pub use std::alloc::AllocError as Memory;

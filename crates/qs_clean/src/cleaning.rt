@@ -1,0 +1,55 @@
+//! Cleaning.
+
+ghost use Rattle.std.specs.Prelude.{◌≡◌, ◌∷◌, IfOk, length};
+ghost use Rattle.qs_clean.specs.Cleaning.{IsLeft, IsClosureOfValid};
+ghost use Rattle.qs_clean.specs.Steps.{AreMarks};
+
+use crate::arcs::{denoted_arcs, free_links, in_both, kept_arcs, left_arcs, numbered};
+use crate::links::{all_turned, reached};
+use qs_canon::Closure;
+use qs_graph::Graph;
+use std::alloc::{AllocError, Global};
+
+// The arcs that are denoted, the nodes that undenoted arcs reach from the entry, and those from which they reach the exit.
+#[derive(Drop)]
+struct Marks {
+    denoted: Vec<bool>,
+    from_entry: Vec<bool>,
+    to_exit: Vec<bool>,
+}
+
+/// What cleaning leaves of a closure over a valid graph, with its nodes numbered from 1 in ascending order. None exactly
+/// where it leaves no arc. Time and memory are linear in the arcs, the nodes and the firings.
+pub fn clean(alloc: Global, closure: &Closure) -> Result<Option<Graph>, AllocError>
+    requires { IsClosureOfValid closure.now }
+    ensures { IfOk result (IsLeft closure.now.stage) }
+{
+    let marks = marks_of(alloc, closure)?;
+    let kept = kept_arcs(alloc, &closure.edges, &marks.denoted, &marks.from_entry, &marks.to_exit)?;
+    let left = in_both(alloc, &marks.from_entry, &marks.to_exit)?;
+    let numbers = numbered(alloc, &left)?;
+    let edges = left_arcs(alloc, &closure.edges, &kept, &numbers.of)?;
+    if edges.is_empty() {
+        return Ok(None);
+    }
+    let entry = numbers.of[closure.entry as usize];
+    let exit = numbers.of[closure.exit as usize];
+    Ok(Some(Graph::of_valid(numbers.count, entry, exit, edges)))
+}
+
+// The marks of a closure.
+fn marks_of(alloc: Global, closure: &Closure) -> Result<Marks, AllocError>
+    requires { IsClosureOfValid closure.now }
+    ensures { IfOk result (λ m. AreMarks closure.now.stage closure.now.entry closure.now.exit m.denoted.items m.from_entry.items m.to_exit.items) }
+{
+    let denoted = denoted_arcs(alloc, &closure.firings, closure.edges.len())?;
+    let links = free_links(alloc, &closure.edges, &denoted)?;
+    let from_entry = reached(alloc, closure.nodes, &links, closure.entry)?;
+    let back = all_turned(alloc, &links)?;
+    let to_exit = reached(alloc, closure.nodes, &back, closure.exit)?;
+    Ok(Marks {
+        denoted,
+        from_entry,
+        to_exit,
+    })
+}
