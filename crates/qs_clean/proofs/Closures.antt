@@ -94,11 +94,11 @@ module _ (c : ClosureOf) (is : IsClosureOfValid c) where
     zero_unmarked true e = absurd (zero_unreached ((are.from_entry_are 0).0 (in_both_from from_entry to_exit 0 e).0))
     zero_unmarked false e = refl
 
-    pub left_few : S.graph.nodes < 2 ^ 32 → marked (each_pair both from_entry to_exit) < 2 ^ 32
-    left_few small =
+    pub left_few : length from_entry ≤ 4294967296 → marked (each_pair both from_entry to_exit) < 4294967296
+    left_few few =
         let long = length-both from_entry to_exit (are.to_exit_len ∙ sym are.from_entry_len) in
         let less = marked_lt (each_pair both from_entry to_exit) 0 (omega (arith, are.from_entry_len)) (zero_unmarked (get_or (each_pair both from_entry to_exit) 0 false) refl) in
-        omega (arith, are.from_entry_len)
+        omega (arith, less, long)
 
     pub kept_few : marked (each_pair (keeps_mark from_entry to_exit) S.graph.arcs denoted) < 4294967295
     kept_few = ⊎_elim some none (cases_lt 0 (length S.done))

@@ -70,8 +70,8 @@ module _ (V : ClosureOf) (v : IsClosureOfValid V) where
     pub numbers_len : length numbers ≡ V.stage.graph.nodes + 1
     numbers_len = length-numbering 0 left_bits ∙ left_len
 
-    pub left_fits : V.stage.graph.nodes < 2 ^ 32 → (marks : List Bool) → marks ≡ left_bits → marked marks < 2 ^ 32
-    left_fits small marks e = subst (λ ms. marked ms < 2 ^ 32) (sym e) (left_few V v denoted from_entry to_exit m small)
+    pub left_fits : length from_entry ≤ 4294967296 → (marks : List Bool) → marks ≡ left_bits → marked marks < 4294967296
+    left_fits few marks e = subst (λ ms. marked ms < 4294967296) (sym e) (left_few V v denoted from_entry to_exit m few)
 
     -- the number that was read is the node's
     pub number_read : (ns : List ℕ) (n k : ℕ) → ns ≡ numbers → n ≤ V.stage.graph.nodes → k ≡ get_or ns n k → k ≡ get_or numbers n 0

@@ -1,6 +1,6 @@
 //! Cleaning.
 
-ghost use Rattle.std.specs.Prelude.{◌≡◌, ◌∷◌, IfOk, length};
+ghost use Rattle.std.specs.Prelude.{◌≤◌, IfOk, length};
 ghost use Rattle.qs_clean.specs.Cleaning.{IsLeft, IsClosureOfValid};
 ghost use Rattle.qs_clean.specs.Steps.{AreMarks};
 
@@ -25,7 +25,13 @@ pub fn clean(alloc: Global, closure: &Closure) -> Result<Option<Graph>, AllocErr
     ensures { IfOk result (IsLeft closure.now.stage) }
 {
     let marks = marks_of(alloc, closure)?;
-    let kept = kept_arcs(alloc, &closure.edges, &marks.denoted, &marks.from_entry, &marks.to_exit)?;
+    let kept = kept_arcs(
+        alloc,
+        &closure.edges,
+        &marks.denoted,
+        &marks.from_entry,
+        &marks.to_exit,
+    )?;
     let left = in_both(alloc, &marks.from_entry, &marks.to_exit)?;
     let numbers = numbered(alloc, &left)?;
     let edges = left_arcs(alloc, &closure.edges, &kept, &numbers.of)?;
@@ -40,7 +46,8 @@ pub fn clean(alloc: Global, closure: &Closure) -> Result<Option<Graph>, AllocErr
 // The marks of a closure.
 fn marks_of(alloc: Global, closure: &Closure) -> Result<Marks, AllocError>
     requires { IsClosureOfValid closure.now }
-    ensures { IfOk result (λ m. AreMarks closure.now.stage closure.now.entry closure.now.exit m.denoted.items m.from_entry.items m.to_exit.items) }
+    ensures marks { IfOk result (λ m. AreMarks closure.now.stage closure.now.entry closure.now.exit m.denoted.items m.from_entry.items m.to_exit.items) }
+    ensures few { IfOk result (λ m. length m.from_entry.items ≤ 4294967296) }
 {
     let denoted = denoted_arcs(alloc, &closure.firings, closure.edges.len())?;
     let links = free_links(alloc, &closure.edges, &denoted)?;

@@ -37,6 +37,7 @@ pub fn reached(
     requires start_in { start ≤ nodes }
     requires links_in { (link : Link) → link ∈ links.now → (link.from ≤ nodes) × (link.to ≤ nodes) }
     ensures len { IfOk result (λ v. length v.items ≡ nodes + 1) }
+    ensures few { IfOk result (λ v. length v.items ≤ 4294967296) }
     ensures marks { IfOk result (λ v. (n : ℕ) → IsMarked v.items n ↔ Reaches links.now start n) }
 {
     let groups = grouped(alloc, nodes, links)?;

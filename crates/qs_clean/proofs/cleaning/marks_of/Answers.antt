@@ -44,8 +44,8 @@ reached-requires-2-clause-links_in c = λ link i.
     let h = turned_in (closure.the_view c.closure.inside) v c.in_ok-denoted.denoted.items c.in_ok-links.links.items are c.deref-6.result.now back link i in
     (h.0.1, h.1.1)
 
-pub returns : goal.returns
-returns c =
+pub returns-clause-marks : goal.returns-clause-marks
+returns-clause-marks c =
     let v : IsClosureOfValid (closure.the_view c.closure.inside) = subst IsClosureOfValid (sym c.closure.view_is) c.requires in
     let long : length c.in_ok-denoted.denoted.items ≡ length c.closure.inside.edges.items = omega (arith, c.in_ok-denoted.ensures.len, c.len.ensures, c.closure.inside.edges.ok.0) in
     let are : c.deref-4.result.now ≡ each_pair free_link c.closure.inside.edges.items c.in_ok-denoted.denoted.items =
