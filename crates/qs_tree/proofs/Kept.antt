@@ -14,9 +14,11 @@ pub kept-append : (start out now more : List ℕ) → take (length start) out �
 kept-append start out now more k e =
     kept-further start out now k (ap (λ xs. take (length out) xs) e ∙ take-append_seam out more)
 
+-- a fact that holds, holds on an error
 pub on_err : {T E P : Type 0} (r : Result T E) → P → OnErr r P
 on_err (Ok _) p = tt
 on_err (Err _) p = p
 
+-- the same where nothing was written
 pub kept-same : (start out now : List ℕ) → take (length start) out ≡ start → now ≡ out → take (length start) now ≡ start
 kept-same start out now k e = ap (λ xs. take (length start) xs) e ∙ k

@@ -14,42 +14,51 @@ use Rattle.qs_tree.specs.Text.{label_text, name_of, in_parentheses, behind_comma
 abbrev pub spelling : List (List ℕ) → Label → List ℕ
 spelling names l = label_text (name_of names l)
 
+-- the lists of trees behind these references
 abbrev pub forests : List ForestRef → List Forest
 forests fs = map (λ f. forest_in f.cells.now) fs
 
+-- what is left to write of a list whose first tree is written
 abbrev pub left_text : List (List ℕ) → Forest → List ℕ
 left_text names g = behind_comma g (forest_text names g)
 
+-- what is left to write of all open lists, the last of which is the innermost
 abbrev pub open_text : List (List ℕ) → List Forest → List ℕ
 open_text names [] = []
 open_text names (g ∷ gs) = open_text names gs ++ (left_text names g ++ 41 ∷ [])
 
+-- a number that falls with each step: the steps that the open lists may still take
 abbrev pub open_size : List Forest → ℕ
 open_size [] = 0
 open_size (g ∷ gs) = 4 * size g + 1 + open_size gs
 
+-- each label in the open lists is one of the first n
 abbrev pub OpenNamed : ℕ → List Forest → Type 0
 OpenNamed n [] = Unit {0}
 OpenNamed n (g ∷ gs) = AreNamed n g × OpenNamed n gs
 
+-- the text of the tree that comes next, if there is one
 abbrev pub here_text : List (List ℕ) → Option TreeRef → List ℕ
 here_text names None = []
 here_text names (Some t) = tree_text names (tree_of t.cells.now)
 
+-- the steps that this tree may take
 abbrev pub here_size : Option TreeRef → ℕ
 here_size None = 0
 here_size (Some t) = 4 * size (tree_of t.cells.now).subtrees + 3
 
+-- each label in this tree is one of the first n
 abbrev pub HereNamed : ℕ → Option TreeRef → Type 0
 HereNamed n None = Unit {0}
 HereNamed n (Some t) = IsNamed n (tree_of t.cells.now)
 
--- the invariant of the walk
+-- the invariant of the walk: what is written, and behind it what is left to write, is the whole
 pub record Walks (names : List (List ℕ)) (n : ℕ) (whole out : List ℕ) (next : Option TreeRef) (waiting : List Forest) : Type 0 where
   pub text : out ++ (here_text names next ++ open_text names waiting) ≡ whole
   pub here : HereNamed n next
   pub named : OpenNamed n waiting
 
+-- one more list, inside the others
 open_text-push : (names : List (List ℕ)) (gs : List Forest) (g : Forest) → open_text names (gs ++ g ∷ []) ≡ left_text names g ++ 41 ∷ open_text names gs
 open_text-push names [] g = refl
 open_text-push names (h ∷ hs) g =

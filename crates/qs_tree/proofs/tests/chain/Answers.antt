@@ -1,4 +1,4 @@
-use Rattle.std.proofs.Common.{◌≡◌, ℕ, ◌-◌, ◌++◌, ap, ◌∙◌, sym, subst, arith, append-nil}
+use Rattle.std.proofs.Common.{◌-◌, ◌++◌, ap, ◌∙◌, arith}
 use Rattle.qs_tree.specs.Cells.{cells_of}
 use Rattle.qs_tree.proofs.Chains.{chain, chain_on, whole, IsTree-chain, IsNamed-chain}
 use Rattle.qs_tree.proofs.tests.chain.Goals as goal
