@@ -1,15 +1,14 @@
 -- A variable is bound, or has another value.
-use Rattle.std.proofs.Common.{◌≡◌, ◌⊎◌, inl, inr, List, [], ◌∷◌, ◌++◌, Option, Some, None, refl, sym, ap, ◌∙◌, subst, arith}
+use Rattle.std.proofs.Common.{◌≡◌, inl, inr, List, [], ◌∷◌, ◌++◌, Option, Some, None, refl, sym, ap, ◌∙◌, subst, arith}
 use Rattle.qs_tree.specs.declared.cell.Label.{Label}
 use Rattle.qs_tree.specs.Trees.{Tree}
 use Rattle.qs_pattern.specs.declared.variable.Var.{Var}
 use Rattle.qs_pattern.specs.declared.subst.Value.{Value}
 use Rattle.qs_pattern.specs.declared.subst.Value.TheVariants as value
 use Rattle.qs_pattern.specs.Substitutions.{value_of}
-use Rattle.qs_tree.specs.Lists.{◌∈◌}
 use Rattle.qs_pattern.specs.Substitutions.{Substitution, IsOfClass}
 use Rattle.qs_pattern.specs.Variables.{IsLabelVar, IsTreeVar, IsForestVar}
-use Rattle.qs_match.specs.Tasks.{AreOfClass, Extends, Binds, Clashes}
+use Rattle.qs_match.specs.Tasks.{AreOfClass, Extends, Binds, HasOther}
 use Rattle.qs_match.proofs.Values.{pair_of, known_from, known_to, known_value, new_from, new_value, new_to}
 
 module _ {s r : Substitution} {v : Var} {vs : List Var} where
@@ -44,7 +43,7 @@ module _ {s t r : Substitution} {v : Var} {vs : List Var} {x : Value} where
       let f = subst (λ u. Extends vs u r) b.1 e in (new_from s r v vs x b.0 f, new_value s r v vs x b.0 f)
 
 module _ {s r : Substitution} {v : Var} {us : List Var} {x : Value} where
-  pub clash_never : Clashes s v x → Extends us s r → value_of r v ≡ Some x → ⊥
+  pub clash_never : HasOther s v x → Extends us s r → value_of r v ≡ Some x → ⊥
   clash_never c e is = let k = known_value s r v us c.value c.has e in let same : c.value ≡ x = cc in c.differs same
 
 -- The class of a variable is that of its value.

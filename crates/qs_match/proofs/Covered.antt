@@ -1,6 +1,6 @@
 -- Under a solution each variable of the patterns has a value of its class, so that the patterns stand for a number of trees
 -- that they can stand for.
-use Rattle.std.proofs.Common.{◌≡◌, ℕ, ◌+◌, ◌≤◌, inl, inr, List, [], ◌∷◌, ◌++◌, length, Some, None, Option, refl, sym, ap, ◌∙◌, subst, arith, length-append}
+use Rattle.std.proofs.Common.{◌≡◌, ◌+◌, ◌≤◌, inl, inr, List, [], ◌∷◌, length, Some, None, Option, refl, sym, ap, ◌∙◌, subst, arith, length-append}
 use Rattle.qs_tree.specs.Lists.{◌∈◌}
 use Rattle.qs_tree.specs.Trees.{Tree}
 use Rattle.qs_pattern.specs.declared.variable.Var.{Var}
@@ -12,7 +12,7 @@ use Rattle.qs_pattern.specs.Patterns.{Patterns, no_pattern, node_first, tree_var
 use Rattle.qs_pattern.specs.Substitutions.{Substitution, value_of}
 use Rattle.qs_pattern.specs.Instances.{inst, tree_in, trees_in, IsLabel, IsTree, IsForest, IsCovered}
 use Rattle.qs_match.specs.Counts.{singles, CanFit}
-use Rattle.qs_match.specs.Tasks.{Extends, Binds, AreOfClass, variables_before, TakesFront}
+use Rattle.qs_match.specs.Tasks.{Extends, AreOfClass, variables_before, TakesFront}
 use Rattle.qs_match.proofs.Values.{known_value}
 use Rattle.qs_match.proofs.Binding.{has_value, binding, bind_to, label_has, tree_has, forest_has}
 

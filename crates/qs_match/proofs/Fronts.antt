@@ -17,7 +17,7 @@ use Rattle.qs_pattern.specs.Substitutions.{value_of}
 use Rattle.qs_pattern.specs.Substitutions.{Substitution, forest_lengths, forest_length}
 use Rattle.qs_pattern.specs.Variables.{IsForestVar}
 use Rattle.qs_match.specs.Order.{LengthsBefore}
-use Rattle.qs_match.specs.Tasks.{Tasks, task_variables, Extends, Solves, Lists, Appends, Binds, Clashes, TakesFront}
+use Rattle.qs_match.specs.Tasks.{Tasks, task_variables, Extends, Solves, Lists, Appends, Binds, HasOther, TakesFront}
 use Rattle.qs_match.proofs.Values.{known_value, new_to}
 use Rattle.qs_match.proofs.Binding.{bind_to, bind_from, clash_never, forest_value}
 use Rattle.qs_match.proofs.Listed.{lists_both, lists_same, lists_none, appends_none}
@@ -51,17 +51,17 @@ forest_order s r q v vs us a b x y ra qb h = split (value_of s v) refl
         rw (lengths_at s r f.2.more v f.0 a f.2.are fa, lengths_at s q g.2.more v g.0 b g.2.are gb) (before_at (forest_lengths s) (length a) (length b) (forest_lengths f.2.more) (forest_lengths g.2.more) h)
 
 -- a solution in which the variable's forest is shorter than n
-pub record ShortSolves (work : Tasks) (s : Substitution) (v : Var) (n : ℕ) (r : Substitution) : Type 0 where
-  pub solves : Solves work s r
+pub record ShortSolves (tasks : Tasks) (s : Substitution) (v : Var) (n : ℕ) (r : Substitution) : Type 0 where
+  pub solves : Solves tasks s r
   pub front : List Tree
   pub is : value_of r v ≡ Some (value.Forest front)
   pub short : length front < n
 
 -- the solutions with a forest shorter than n were appended
-pub record Splits (work : Tasks) (s : Substitution) (v : Var) (n : ℕ) (old new : List Substitution) : Type 0 where
+pub record Splits (tasks : Tasks) (s : Substitution) (v : Var) (n : ℕ) (old new : List Substitution) : Type 0 where
   pub found : List Substitution
   pub are : new ≡ old ++ found
-  pub lists : Lists (ShortSolves work s v n) found
+  pub lists : Lists (ShortSolves tasks s v n) found
 
 pub same_front : (a b x y : List Tree) → length a ≡ length b → a ++ x ≡ b ++ y → a ≡ b
 same_front [] [] x y n e = refl
@@ -148,7 +148,7 @@ module _ (W : Tasks) (s : Substitution) (v : Var) (rest : Patterns) (c : IsFores
           forest_order s r q v _ _ z.front front z.solves.extends f.0.extends z.is f.1 (omega arith));
     }
 
-    pub splits_none : Clashes s v (value.Forest front) → Splits ((forest_var_first v rest, ts) ∷ W) s v n old mid → Splits ((forest_var_first v rest, ts) ∷ W) s v (n + 1) old mid
+    pub splits_none : HasOther s v (value.Forest front) → Splits ((forest_var_first v rest, ts) ∷ W) s v n old mid → Splits ((forest_var_first v rest, ts) ∷ W) s v (n + 1) old mid
     splits_none b a = record {
       found = a.found;
       are = a.are;

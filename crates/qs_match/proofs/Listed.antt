@@ -1,8 +1,7 @@
 -- Lists of exactly those of which a fact holds.
-use Rattle.qs_match.proofs.Values.{names}
 use Rattle.std.proofs.Common.{subst, ◌≡◌, ◌⊎◌, inl, inr, List, [], ◌∷◌, ◌++◌, refl, sym, ap, ◌∙◌, append-nil}
 use Rattle.qs_tree.specs.Lists.{◌∈◌, Ascends}
-use Rattle.qs_pattern.specs.Substitutions.{Substitution}
+use Rattle.qs_pattern.specs.Substitutions.{Substitution, variables_of}
 use Rattle.qs_match.specs.Order.{LengthsBefore}
 use Rattle.qs_match.specs.Tasks.{Tasks, Solves, AreOfClass, Lists, Appends}
 
@@ -49,12 +48,12 @@ module _ {P Q A : Substitution → Type 0} {found more : List Substitution} wher
     ascends = Ascends-append LengthsBefore found more l.ascends m.ascends (λ r q i j. order r q (l.sound r i) (m.sound q j));
   }
 
-module _ {work other : Tasks} {s t : Substitution} {old new : List Substitution} where
-  pub appends_same : ((r : Substitution) → Solves other t r → Solves work s r) → ((r : Substitution) → Solves work s r → Solves other t r) → Appends other t old new → Appends work s old new
+module _ {tasks other : Tasks} {s t : Substitution} {old new : List Substitution} where
+  pub appends_same : ((r : Substitution) → Solves other t r → Solves tasks s r) → ((r : Substitution) → Solves tasks s r → Solves other t r) → Appends other t old new → Appends tasks s old new
   appends_same to from a = record { found = a.found; are = a.are; lists = lists_same to from a.lists }
 
-pub appends_none : (work : Tasks) (s : Substitution) (old : List Substitution) → ((r : Substitution) → Solves work s r → ⊥) → Appends work s old old
-appends_none work s old never = record { found = []; are = sym (append-nil old); lists = lists_none never }
+pub appends_none : (tasks : Tasks) (s : Substitution) (old : List Substitution) → ((r : Substitution) → Solves tasks s r → ⊥) → Appends tasks s old old
+appends_none tasks s old never = record { found = []; are = sym (append-nil old); lists = lists_none never }
 
 -- Nothing is left to be matched.
 solved : (s : Substitution) → AreOfClass s → Solves [] s s
@@ -63,7 +62,7 @@ solved s c = record { extends = record { more = []; are = sym (append-nil s); va
 pub no_more : (s r more : Substitution) → r ≡ s ++ more → more ≡ [] → r ≡ s
 no_more s r more e n = e ∙ ap (λ (t : Substitution). s ++ t) n ∙ append-nil s
 
-pub no_names : (more : Substitution) → names more ≡ [] → more ≡ []
+pub no_names : (more : Substitution) → variables_of more ≡ [] → more ≡ []
 no_names [] e = refl
 no_names (p ∷ more) e = absurd cc
 

@@ -1,12 +1,12 @@
 -- The first pattern of a list, and how many patterns stand for one tree each.
-use Rattle.std.proofs.Common.{◌≡◌, ℕ, ◌+◌, ◌-◌, ◌<◌, ◌≤◌, List, [], ◌∷◌, length, take, drop, get_or, refl, sym, ap, ◌∙◌, subst, arith, Vec, Global}
+use Rattle.std.proofs.Common.{◌≡◌, ℕ, ◌+◌, ◌-◌, ◌<◌, ◌≤◌, List, [], ◌∷◌, length, take, drop, get_or, refl, sym, ap, ◌∙◌, arith, Vec, Global}
 use Rattle.std.proofs.lemmas.Grind.{common_steps}
 use Rattle.std.proofs.lemmas.List.{drop_more, drop_all}
 use mathlib.Core.Former.{Count}
 use Rattle.qs_pattern.specs.declared.pattern.Head.{Head}
 use Rattle.qs_pattern.specs.declared.pattern.Pattern.{Pattern, Node, Node', Tree, Forest, Row_of-Pattern, end_of-Pattern, more_of-Pattern, items-the_row-Pattern, items_hidden-the_row-Pattern-0}
 use Rattle.qs_pattern.specs.declared.pattern.Pattern.TheBlock.{hidden-the_row-Pattern-0}
-use Rattle.qs_pattern.specs.Patterns.{Patterns, no_pattern, node_first, pattern_before, row_patterns, patterns, one_pattern, NoForestAtTop}
+use Rattle.qs_pattern.specs.Patterns.{Patterns, node_first, pattern_before, row_patterns, patterns, one_pattern, NoForestAtTop}
 use Rattle.qs_match.specs.Counts.{singles, CanFit}
 
 row_patterns-is : {n : Count} (row : Row_of-Pattern n) → row_patterns row ≡ patterns (items-the_row-Pattern n row)

@@ -1,4 +1,4 @@
--- One step of the work: what solves it, and what solves the work behind the step.
+-- One step of the search: the solutions of the tasks before it are those of the tasks behind it.
 use Rattle.std.proofs.Common.{◌≡◌, List, [], ◌∷◌, ◌++◌, Some, refl, sym, ap, ◌∙◌}
 use Rattle.qs_tree.specs.declared.cell.Label.{Label}
 use Rattle.qs_tree.specs.Trees.{Tree, node, kids, trees, forest, trees-forest, forest-trees}
@@ -10,7 +10,7 @@ use Rattle.qs_pattern.specs.Instances.{inst, tree_in, label_in}
 use Rattle.qs_pattern.specs.Substitutions.{value_of}
 use Rattle.qs_pattern.specs.Substitutions.{Substitution}
 use Rattle.qs_pattern.specs.Variables.{IsLabelVar, IsTreeVar}
-use Rattle.qs_match.specs.Tasks.{Tasks, Appends, Binds, Clashes}
+use Rattle.qs_match.specs.Tasks.{Tasks, Appends, Binds, HasOther}
 use Rattle.qs_match.proofs.Binding.{bind_to, bind_from, clash_never, label_value, tree_value}
 use Rattle.qs_match.proofs.Listed.{appends_same, appends_none}
 
@@ -46,7 +46,7 @@ module _ (W : Tasks) (s : Substitution) (old new : List Substitution) where
         record { extends = bind_to b z.extends (k.1 ∙ ap (λ q. Some (value.Tree q)) same); fits = (others, z.fits.1) })
         a
 
-    pub stop_tree : (u : Tree) (us : List Tree) → Clashes s v (value.Tree u) → Appends ((tree_var_first v rest, u ∷ us) ∷ W) s old old
+    pub stop_tree : (u : Tree) (us : List Tree) → HasOther s v (value.Tree u) → Appends ((tree_var_first v rest, u ∷ us) ∷ W) s old old
     stop_tree u us b =
         appends_none ((tree_var_first v rest, u ∷ us) ∷ W) s old
         (λ r z.
@@ -108,7 +108,7 @@ module _ (W : Tasks) (s : Substitution) (old new : List Substitution) where
         record { extends = bind_to b z.extends (k.1 ∙ ap (λ q. Some (value.Label q)) same); fits = (p.1, (o, z.fits.1)) })
         a
 
-    pub stop_head : (u : Tree) (us : List Tree) → Clashes s v (value.Label u.root) → Appends ((node_first (head.Var v) ks rest, u ∷ us) ∷ W) s old old
+    pub stop_head : (u : Tree) (us : List Tree) → HasOther s v (value.Label u.root) → Appends ((node_first (head.Var v) ks rest, u ∷ us) ∷ W) s old old
     stop_head u us b =
         appends_none ((node_first (head.Var v) ks rest, u ∷ us) ∷ W) s old
         (λ r z.

@@ -1,7 +1,6 @@
 -- A substitution with one more variable at its end.
-use Rattle.std.proofs.Common.{Bool, true, false, cond, ◌≡◌, inl, inr, List, [], ◌∷◌, ◌++◌, Some, None, refl, sym, ap, ◌∙◌, subst, arith}
+use Rattle.std.proofs.Common.{Bool, true, false, cond, ◌≡◌, inl, inr, [], ◌∷◌, ◌++◌, Some, None, refl, sym, ap, ◌∙◌, subst, arith}
 use Rattle.std.proofs.lemmas.Bool.Decides.{nat_tests}
-use Rattle.qs_tree.specs.Lists.{◌∈◌}
 use Rattle.qs_pattern.specs.declared.variable.Var.{Var}
 use Rattle.qs_pattern.specs.declared.subst.Value.{Value}
 use Rattle.qs_pattern.specs.Variables.{same_var}

@@ -1,5 +1,5 @@
 -- What a substitution gives a variable, as it grows.
-use Rattle.std.proofs.Common.{Bool, true, false, ◌==◌, ◌&&◌, cond, ◌≡◌, inl, inr, List, [], ◌∷◌, ◌++◌, map, Some, None, refl, sym, ap, ◌∙◌, eq-eqb, append_assoc}
+use Rattle.std.proofs.Common.{Bool, true, false, ◌==◌, ◌&&◌, cond, ◌≡◌, inl, inr, List, [], ◌∷◌, ◌++◌, Some, None, refl, sym, ap, ◌∙◌, eq-eqb, append_assoc}
 use Rattle.std.proofs.lemmas.Bool.{eqb-true}
 use Rattle.std.proofs.lemmas.List.{map-append}
 use Rattle.qs_pattern.specs.declared.variable.Var.{Var}
@@ -7,11 +7,8 @@ use Rattle.qs_pattern.specs.declared.subst.Value.{Value}
 use Rattle.qs_pattern.specs.Variables.{same_var}
 use Rattle.qs_pattern.specs.Substitutions.{value_of}
 use Rattle.qs_tree.specs.Lists.{◌∈◌}
-use Rattle.qs_pattern.specs.Substitutions.{Substitution}
-use Rattle.qs_match.specs.Tasks.{among, new_ones, Extends}
-
-abbrev pub names : Substitution → List Var
-names s = map (λ p. p.0) s
+use Rattle.qs_pattern.specs.Substitutions.{Substitution, variables_of}
+use Rattle.qs_match.specs.Tasks.{was_seen, new_ones, Extends}
 
 pub same_var-refl : (v : Var) → same_var v v ≡ true
 same_var-refl v = rw (eq-eqb v.letter v.letter refl, eq-eqb v.number v.number refl) refl
@@ -45,19 +42,19 @@ module _ (v : Var) where
   pub value_of-first : (x : Value) (s : Substitution) → value_of ((v, x) ∷ s) v ≡ Some x
   value_of-first x s = rw (same_var-refl v) refl
 
-  pub among-some : (s : Substitution) (y : Value) → value_of s v ≡ Some y → among v (names s) ≡ true
-  among-some [] y e = absurd cc
-  among-some (p ∷ s) y e = split (same_var p.0 v) (λ h. among-some s y h) e
+  pub was_seen-some : (s : Substitution) (y : Value) → value_of s v ≡ Some y → was_seen v (variables_of s) ≡ true
+  was_seen-some [] y e = absurd cc
+  was_seen-some (p ∷ s) y e = split (same_var p.0 v) (λ h. was_seen-some s y h) e
     where
-      split : (b : Bool) → (value_of s v ≡ Some y → among v (names s) ≡ true) → cond b (Some p.1) (value_of s v) ≡ Some y → cond b true (among v (names s)) ≡ true
+      split : (b : Bool) → (value_of s v ≡ Some y → was_seen v (variables_of s) ≡ true) → cond b (Some p.1) (value_of s v) ≡ Some y → cond b true (was_seen v (variables_of s)) ≡ true
       split true below h = refl
       split false below h = below h
 
-  pub among-none : (s : Substitution) → value_of s v ≡ None → among v (names s) ≡ false
-  among-none [] e = refl
-  among-none (p ∷ s) e = split (same_var p.0 v) (λ h. among-none s h) e
+  pub was_seen-none : (s : Substitution) → value_of s v ≡ None → was_seen v (variables_of s) ≡ false
+  was_seen-none [] e = refl
+  was_seen-none (p ∷ s) e = split (same_var p.0 v) (λ h. was_seen-none s h) e
     where
-      split : (b : Bool) → (value_of s v ≡ None → among v (names s) ≡ false) → cond b (Some p.1) (value_of s v) ≡ None → cond b true (among v (names s)) ≡ false
+      split : (b : Bool) → (value_of s v ≡ None → was_seen v (variables_of s) ≡ false) → cond b (Some p.1) (value_of s v) ≡ None → cond b true (was_seen v (variables_of s)) ≡ false
       split true below h = absurd cc
       split false below h = below h
 
@@ -74,11 +71,11 @@ module _ (v : Var) where
 -- Extending a substitution by a value of a variable.
 module _ (s r : Substitution) (v : Var) (vs : List Var) where
   -- a variable that has a value is no new one
-  known_is : (y : Value) → value_of s v ≡ Some y → new_ones (names s) (v ∷ vs) ≡ new_ones (names s) vs
-  known_is y e = rw (among-some v s y e) refl
+  known_is : (y : Value) → value_of s v ≡ Some y → new_ones (variables_of s) (v ∷ vs) ≡ new_ones (variables_of s) vs
+  known_is y e = rw (was_seen-some v s y e) refl
 
-  new_is : value_of s v ≡ None → new_ones (names s) (v ∷ vs) ≡ v ∷ new_ones (names s ++ v ∷ []) vs
-  new_is e = rw (among-none v s e) refl
+  new_is : value_of s v ≡ None → new_ones (variables_of s) (v ∷ vs) ≡ v ∷ new_ones (variables_of s ++ v ∷ []) vs
+  new_is e = rw (was_seen-none v s e) refl
 
   pub known_from : (y : Value) → value_of s v ≡ Some y → Extends vs s r → Extends (v ∷ vs) s r
   known_from y e x = record { more = x.more; are = x.are; variables = x.variables ∙ sym (known_is y e); classes = x.classes }
@@ -102,17 +99,17 @@ module _ (s r : Substitution) (v : Var) (vs : List Var) where
       ap (λ (t : Substitution). value_of t v) (x.are ∙ append_assoc s ((v, y) ∷ []) x.more) ∙ value_of-behind v s ((v, y) ∷ x.more) e ∙ value_of-first v y x.more
 
   -- the first of the new pairs
-  first_pair : (more : Substitution) (us : List Var) → names more ≡ v ∷ us → (y : Value) × (rest : Substitution) × (more ≡ (v, y) ∷ rest) × (names rest ≡ us)
+  first_pair : (more : Substitution) (us : List Var) → variables_of more ≡ v ∷ us → (y : Value) × (rest : Substitution) × (more ≡ (v, y) ∷ rest) × (variables_of rest ≡ us)
   first_pair [] us e = absurd cc
   first_pair (p ∷ more) us e =
       let f : p.0 ≡ v = cc in
-      let g : names more ≡ us = cc in
+      let g : variables_of more ≡ us = cc in
       (p.1, more, ap (λ (w : Var). let q : Var × Value = (w, p.1) in q ∷ more) f, g)
 
   -- the new value
   pub new_to : value_of s v ≡ None → Extends (v ∷ vs) s r → (y : Value) × (value_of r v ≡ Some y) × Extends vs (s ++ (v, y) ∷ []) r
   new_to e x =
-      let f = first_pair x.more (new_ones (names s ++ v ∷ []) vs) (x.variables ∙ new_is e) in
+      let f = first_pair x.more (new_ones (variables_of s ++ v ∷ []) vs) (x.variables ∙ new_is e) in
       let is : r ≡ s ++ ((v, f.0) ∷ f.1) = x.are ∙ ap (λ (t : Substitution). s ++ t) f.2 in (
         f.0,
         ap (λ (t : Substitution). value_of t v) is ∙ value_of-behind v s ((v, f.0) ∷ f.1) e ∙ value_of-first v f.0 f.1,

@@ -1,4 +1,4 @@
--- The new variables among all: each where it first occurs.
+-- The new variables was_seen all: each where it first occurs.
 use Rattle.std.proofs.Common.{Bool, true, false, not, cond, ◌==◌, ◌&&◌, ◌≡◌, List, [], ◌∷◌, ◌++◌, filter, length, refl, sym, ap, ◌∙◌, subst, append_assoc, append-nil}
 use Rattle.std.proofs.lemmas.Bool.{eqb-true}
 use Rattle.qs_tree.specs.Trees.{Tree}
@@ -6,12 +6,12 @@ use Rattle.qs_pattern.specs.declared.variable.Var.{Var}
 use Rattle.qs_pattern.specs.declared.pattern.Head.TheVariants as head
 use Rattle.qs_pattern.specs.Patterns.{Patterns, no_pattern, node_first, tree_var_first, forest_var_first}
 use Rattle.qs_pattern.specs.Variables.{same_var}
-use Rattle.qs_pattern.specs.Substitutions.{Substitution}
+use Rattle.qs_pattern.specs.Substitutions.{Substitution, variables_of}
 use Rattle.qs_pattern.specs.Instances.{IsMatch, variables}
 use Rattle.qs_pattern.specs.Patterns.{variables_in, AreInClass}
 use Rattle.qs_pattern.specs.Variables.{firsts}
-use Rattle.qs_match.specs.Tasks.{Tasks, among, new_ones, variables_before, Solves, Lists, Appends}
-use Rattle.qs_match.proofs.Values.{names, both}
+use Rattle.qs_match.specs.Tasks.{Tasks, was_seen, new_ones, variables_before, Solves, Lists, Appends}
+use Rattle.qs_match.proofs.Values.{both}
 use Rattle.qs_match.proofs.Listed.{lists_same, lists_none}
 use Rattle.qs_match.proofs.Covered.{fits}
 use Rattle.qs_match.specs.Counts.{CanFit}
@@ -42,37 +42,37 @@ same_var-same v w e u =
     let b = both (v.letter == w.letter) (v.number == w.number) e in
     rw (eqb-true v.letter w.letter b.0, eqb-true v.number w.number b.1) refl
 
-among-same : (v w : Var) → same_var v w ≡ true → (seen : List Var) → among v seen ≡ among w seen
-among-same v w e [] = refl
-among-same v w e (u ∷ seen) = ap (λ b. cond b true (among v seen)) (same_var-same v w e u) ∙ ap (λ b. cond (same_var u w) true b) (among-same v w e seen)
+was_seen-same : (v w : Var) → same_var v w ≡ true → (seen : List Var) → was_seen v seen ≡ was_seen w seen
+was_seen-same v w e [] = refl
+was_seen-same v w e (u ∷ seen) = ap (λ b. cond b true (was_seen v seen)) (same_var-same v w e u) ∙ ap (λ b. cond (same_var u w) true b) (was_seen-same v w e seen)
 
-among-last : (v w : Var) (seen : List Var) → not (among w (seen ++ v ∷ [])) ≡ (not (same_var v w) && not (among w seen))
-among-last v w [] = split (same_var v w)
+was_seen-last : (v w : Var) (seen : List Var) → not (was_seen w (seen ++ v ∷ [])) ≡ (not (same_var v w) && not (was_seen w seen))
+was_seen-last v w [] = split (same_var v w)
   where
     split : (b : Bool) → not (cond b true false) ≡ (not b && true)
     split true = refl
     split false = refl
-among-last v w (u ∷ seen) = split (same_var u w) (same_var v w) (among-last v w seen)
+was_seen-last v w (u ∷ seen) = split (same_var u w) (same_var v w) (was_seen-last v w seen)
   where
-    split : (a b : Bool) → not (among w (seen ++ v ∷ [])) ≡ (not b && not (among w seen)) → not (cond a true (among w (seen ++ v ∷ []))) ≡ (not b && not (cond a true (among w seen)))
+    split : (a b : Bool) → not (was_seen w (seen ++ v ∷ [])) ≡ (not b && not (was_seen w seen)) → not (cond a true (was_seen w (seen ++ v ∷ []))) ≡ (not b && not (cond a true (was_seen w seen)))
     split true true e = refl
     split true false e = refl
     split false b e = e
 
-pub new_ones-is : (seen vs : List Var) → new_ones seen vs ≡ filter (λ w. not (among w seen)) (firsts vs)
+pub new_ones-is : (seen vs : List Var) → new_ones seen vs ≡ filter (λ w. not (was_seen w seen)) (firsts vs)
 new_ones-is seen [] = refl
-new_ones-is seen (v ∷ vs) = split (among v seen) refl (new_ones-is seen vs) (new_ones-is (seen ++ v ∷ []) vs)
+new_ones-is seen (v ∷ vs) = split (was_seen v seen) refl (new_ones-is seen vs) (new_ones-is (seen ++ v ∷ []) vs)
   where
-    split : (b : Bool) → among v seen ≡ b → new_ones seen vs ≡ filter (λ w. not (among w seen)) (firsts vs)
-        → new_ones (seen ++ v ∷ []) vs ≡ filter (λ w. not (among w (seen ++ v ∷ []))) (firsts vs)
+    split : (b : Bool) → was_seen v seen ≡ b → new_ones seen vs ≡ filter (λ w. not (was_seen w seen)) (firsts vs)
+        → new_ones (seen ++ v ∷ []) vs ≡ filter (λ w. not (was_seen w (seen ++ v ∷ []))) (firsts vs)
         → cond b (new_ones seen vs) (v ∷ new_ones (seen ++ v ∷ []) vs)
-        ≡ cond (not b) (v ∷ filter (λ w. not (among w seen)) (filter (λ w. not (same_var v w)) (firsts vs))) (filter (λ w. not (among w seen)) (filter (λ w. not (same_var v w)) (firsts vs)))
-    split true e f g = f ∙ sym (filter_both (λ w. not (among w seen)) (λ w. not (same_var v w)) (λ w. not (among w seen)) (λ w. covered w (same_var v w) refl) (firsts vs))
+        ≡ cond (not b) (v ∷ filter (λ w. not (was_seen w seen)) (filter (λ w. not (same_var v w)) (firsts vs))) (filter (λ w. not (was_seen w seen)) (filter (λ w. not (same_var v w)) (firsts vs)))
+    split true e f g = f ∙ sym (filter_both (λ w. not (was_seen w seen)) (λ w. not (same_var v w)) (λ w. not (was_seen w seen)) (λ w. covered w (same_var v w) refl) (firsts vs))
       where
-        covered : (w : Var) (b : Bool) → same_var v w ≡ b → not (among w seen) ≡ (not b && not (among w seen))
-        covered w true h = ap not (sym (among-same v w h seen) ∙ e)
+        covered : (w : Var) (b : Bool) → same_var v w ≡ b → not (was_seen w seen) ≡ (not b && not (was_seen w seen))
+        covered w true h = ap not (sym (was_seen-same v w h seen) ∙ e)
         covered w false h = refl
-    split false e f g = ap (λ us. v ∷ us) (g ∙ sym (filter_both (λ w. not (among w seen)) (λ w. not (same_var v w)) (λ w. not (among w (seen ++ v ∷ []))) (λ w. among-last v w seen) (firsts vs)))
+    split false e f g = ap (λ us. v ∷ us) (g ∙ sym (filter_both (λ w. not (was_seen w seen)) (λ w. not (same_var v w)) (λ w. not (was_seen w (seen ++ v ∷ []))) (λ w. was_seen-last v w seen) (firsts vs)))
 
 -- all that is to be matched is one list of patterns, and nothing is bound
 module _ (side : Patterns) (trees : List Tree) where
@@ -81,7 +81,7 @@ module _ (side : Patterns) (trees : List Tree) where
       ap (new_ones []) (variables_before-is side [] ∙ append-nil (variables_in side)) ∙ new_ones-is [] (variables_in side) ∙ filter_whole (λ w. true) (λ w. refl) (variables side)
 
   pub match_from : (r : Substitution) → Solves ((side, trees) ∷ []) [] r → IsMatch side trees r
-  match_from r z = record { variables = ap names z.extends.are ∙ z.extends.variables ∙ variables_are; classes = z.extends.classes; instance = z.fits.0 }
+  match_from r z = record { variables = ap variables_of z.extends.are ∙ z.extends.variables ∙ variables_are; classes = z.extends.classes; instance = z.fits.0 }
 
   pub match_to : (r : Substitution) → IsMatch side trees r → Solves ((side, trees) ∷ []) [] r
   match_to r m = record { extends = record { more = r; are = refl; variables = m.variables ∙ sym variables_are; classes = m.classes }; fits = (m.instance, tt) }

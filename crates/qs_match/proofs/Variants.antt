@@ -1,4 +1,4 @@
--- The work of each variant.
+-- The tasks and the substitution of each variant.
 use Rattle.std.proofs.Common.{◌≡◌, [], ◌∷◌, ◌++◌, sym, ap, ◌∙◌}
 use Rattle.qs_tree.specs.Cells.{trees_of}
 use Rattle.qs_pattern.specs.Patterns.{patterns}

@@ -28,7 +28,7 @@ pub enum Bindings<'a> {
     },
 }
 
-/// What the variable stands for.
+/// What the variable stands for. None where it has no value.
 pub fn find<'a>(bindings: &Bindings<'a>, var: Var) -> Option<ValueRef<'a>>
     ensures { option_map value_of_ref result ≡ value_of (substitution_of bindings.now) var }
 {
@@ -45,7 +45,7 @@ pub fn find<'a>(bindings: &Bindings<'a>, var: Var) -> Option<ValueRef<'a>>
     }
 }
 
-/// Whether both are equal.
+/// Whether both stand for equal values.
 pub fn are_equal(a: ValueRef<'_>, b: ValueRef<'_>) -> bool
     ensures { IsTrue result ↔ (value_of_ref a.entry ≡ value_of_ref b.entry) }
 {
@@ -65,7 +65,7 @@ pub fn are_equal(a: ValueRef<'_>, b: ValueRef<'_>) -> bool
     }
 }
 
-/// A copy that owns its trees.
+/// The value, as a copy that owns its trees.
 pub fn owned(alloc: Global, value: ValueRef<'_>) -> Result<Value, AllocError>
     ensures { IfOk result (λ v. v ≡ value_of_ref value.entry) }
 {

@@ -1,4 +1,5 @@
-//! How many trees patterns can stand for: what is refused at once, and which lengths a forest variable can have.
+//! How many trees patterns can stand for: what the search refuses at once, and which lengths it tries for a forest variable.
+//! Whether a match is found never rests on this alone.
 
 ghost use Rattle.std.specs.Prelude.{ℕ, ◌≡◌, ◌↔◌, ◌+◌, ◌<◌, ◌≤◌, ◌++◌, List, length, IsTrue, IsNone, IfSome, Some};
 ghost use Rattle.qs_tree.specs.Trees.{Tree};
@@ -59,14 +60,15 @@ pub fn can_be_root(head: Head, root: Label) -> bool
     }
 }
 
-/// The lengths from `least` to `most`.
+/// The numbers of trees from `least` to `most`.
 #[derive(Clone, Copy)]
 pub struct Lengths {
     pub least: usize,
     pub most: usize,
 }
 
-/// The lengths of a list of trees before those that the patterns stand for, where both together are these trees.
+/// The lengths that a list can have, where it and then the trees that the patterns stand for are these trees. Only one fits
+/// where no pattern is a forest variable. None where no length fits.
 fn lengths_before(side: &[Pattern], trees: ForestRef<'_>) -> Option<Lengths>
     ensures none { IsNone result → (n m : ℕ) → n + m ≡ length (trees_of trees.entry.cells.now) → CanFit (patterns side.now) m → ⊥ }
     ensures some { IfSome result (λ lengths. (n m : ℕ) → n + m ≡ length (trees_of trees.entry.cells.now) → CanFit (patterns side.now) m → (lengths.least ≤ n) × (n ≤ lengths.most)) }
@@ -84,7 +86,7 @@ fn lengths_before(side: &[Pattern], trees: ForestRef<'_>) -> Option<Lengths>
     }
 }
 
-/// The length of the list of trees that the variable stands for already.
+/// The length of the list that the variable stands for already. None where it has no value yet.
 fn known_length(bindings: &Bindings<'_>, var: Var) -> Option<usize>
     ensures { IfSome result (λ n. (front : List Tree) × (value_of (substitution_of bindings.now) var ≡ Some (Value.Forest front)) × (length front ≡ n)) }
 {
@@ -94,7 +96,8 @@ fn known_length(bindings: &Bindings<'_>, var: Var) -> Option<usize>
     }
 }
 
-/// The lengths that the forest variable's value can have, where the variable and then the patterns stand for these trees.
+/// The lengths that are tried for the forest variable, where it and then the patterns stand for these trees: those that fit,
+/// or only that of the value that it has already. None where no length fits.
 pub fn lengths_of(
     var: Var,
     rest: &[Pattern],
@@ -121,7 +124,7 @@ pub fn lengths_of(
     })
 }
 
-/// The list of trees, split behind so many of them. None where there are fewer.
+/// The list of trees, split behind this many of them. None where there are fewer.
 pub fn split_behind<'a>(trees: ForestRef<'a>, count: usize) -> Option<Split<'a>>
     ensures none { IsNone result → length (trees_of trees.entry.cells.now) < count }
     ensures some { IfSome result (λ split. length (front_of split) ≡ count) }

@@ -1,4 +1,6 @@
-//! The search for matches, depth first over the cells of the patterns.
+//! The search for matches: depth first over the labels and variables of the patterns, at every depth. It recurses over
+//! them, and never over the depth or the length of the trees. What it bound and what it has still to match lies borrowed
+//! in the frames of the recursion, so that only finished substitutions take memory.
 
 ghost use Rattle.std.specs.Prelude.{◌≡◌, ◌++◌, ◌∷◌, [], IfOk, OnOk, MatchOption, IsTrue, ◌↔◌};
 ghost use Rattle.qs_tree.specs.Cells.{trees_of};
@@ -8,7 +10,7 @@ ghost use Rattle.qs_pattern.specs.Substitutions.{Substitution, IsOfClass, IsSubs
 ghost use Rattle.qs_pattern.specs.Instances.{IsMatch};
 ghost use Rattle.qs_pattern.specs.Patterns.{AreInClass};
 ghost use Rattle.qs_match.specs.Order.{LengthsBefore};
-ghost use Rattle.qs_match.specs.Tasks.{Appends, Tries, IsInClass};
+ghost use Rattle.qs_match.specs.Tasks.{Appends, AppendsWith, IsInClass};
 ghost use Rattle.qs_match.specs.Bindings.{value_of_ref, substitution_of};
 ghost use Rattle.qs_match.specs.Remaining.{tasks_of};
 
@@ -19,7 +21,8 @@ use qs_pattern::{Head, Pattern, Subst, Var};
 use qs_tree::ForestRef;
 use std::alloc::{AllocError, Global};
 
-// Appends each solution of the side at the trees and of all that remains to be matched.
+/// Appends each substitution that extends the bindings, and under which the side stands for the trees and all that remains
+/// for its trees. After an error some of them may have been appended.
 #[cycle(search)]
 pub fn search(
     alloc: Global,
@@ -47,7 +50,7 @@ pub fn search(
     }
 }
 
-// No pattern is left of this list.
+/// No pattern is left of this list.
 #[cycle(search)]
 fn search_remaining(
     alloc: Global,
@@ -76,7 +79,7 @@ fn search_remaining(
     }
 }
 
-// A node is the first pattern.
+/// A node is the first pattern: its patterns are matched with the subtrees of the first tree.
 #[cycle(search)]
 fn search_node(
     alloc: Global,
@@ -95,6 +98,7 @@ fn search_node(
     let Some((tree, behind)) = trees.first_rest() else {
         return Ok(());
     };
+    // The label and the number of subtrees are compared before any list is split.
     if !can_be_root(head, tree.root()) {
         return Ok(());
     }
@@ -121,7 +125,7 @@ fn search_node(
     }
 }
 
-// A tree variable is the first pattern.
+/// A tree variable is the first pattern: it takes the first tree.
 #[cycle(search)]
 fn search_tree(
     alloc: Global,
@@ -151,7 +155,8 @@ fn search_tree(
     )
 }
 
-// A forest variable is the first pattern: it takes each front of the trees, shortest first.
+/// A forest variable is the first pattern: it takes each list at the head of the trees that is of a length that fits,
+/// shortest first.
 #[cycle(search)]
 fn search_forest(
     alloc: Global,
@@ -196,7 +201,7 @@ fn search_forest(
     }
 }
 
-// The side is matched where the variable has this value or none yet.
+/// The variable takes this value, unless it has another one, and the side is matched with the trees.
 #[cycle(search)]
 fn search_with(
     alloc: Global,
@@ -211,7 +216,7 @@ fn search_with(
     requires in_class { IsInClass ((patterns side.now, trees_of trees.cells.now) ∷ tasks_of remaining.now) }
     requires substitution { IsSubstitution (substitution_of bindings.now) }
     requires class { IsOfClass (var, value_of_ref value) }
-    ensures { OnOk result (Tries ((patterns side.now, trees_of trees.entry.cells.now) ∷ tasks_of remaining.now) (substitution_of bindings.now) var (value_of_ref value.entry) found.old.items found.new.items) }
+    ensures { OnOk result (AppendsWith ((patterns side.now, trees_of trees.entry.cells.now) ∷ tasks_of remaining.now) (substitution_of bindings.now) var (value_of_ref value.entry) found.old.items found.new.items) }
 {
     match find(bindings, var) {
         Some(known) => {

@@ -1,9 +1,9 @@
-use Rattle.std.proofs.Common.{rules, ◌≡◌, [], ◌∷◌, ◌++◌, sym, ap, ◌∙◌, subst}
-use Rattle.qs_pattern.specs.Substitutions.{IsSubstitution, value_of, IsOfClass}
+use Rattle.std.proofs.Common.{rules, sym, ap, ◌∙◌, subst}
+use Rattle.qs_pattern.specs.Substitutions.{value_of, IsOfClass}
 use Rattle.qs_match.specs.declared.bindings.Bindings.TheFolds.{the_lemmas}
-use Rattle.qs_match.specs.Bindings.{value_of_ref, substitution_of}
+use Rattle.qs_match.specs.Bindings.{substitution_of}
 use Rattle.qs_match.proofs.Variants.{substitution-More}
-use Rattle.qs_match.proofs.Substitutions.{EndsWith, substitution_ends}
+use Rattle.qs_match.proofs.Substitutions.{substitution_ends}
 use Rattle.qs_match.proofs.bindings.+subst_of.Goals as goal
 
 pub subst_of-requires : goal.subst_of-requires

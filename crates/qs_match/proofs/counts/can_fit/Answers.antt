@@ -1,6 +1,5 @@
-use Rattle.std.proofs.Common.{◌≡◌, ◌≤◌, sym, ap, ◌∙◌, eq-eqb, length, arith}
+use Rattle.std.proofs.Common.{◌≡◌, sym, ◌∙◌, eq-eqb, length, arith}
 use Rattle.std.proofs.lemmas.Bool.{eqb-true, leb-true, le-leb}
-use Rattle.qs_tree.specs.Cells.{trees_of}
 use Rattle.qs_pattern.specs.Patterns.{patterns}
 use Rattle.qs_match.specs.Counts.{singles}
 use Rattle.qs_match.proofs.Sides.{fit_all, fit_all-is, fit_some}

@@ -1,4 +1,4 @@
-use Rattle.std.proofs.Common.{refl, ap, length, sym, ◌∙◌, ◌+◌, arith}
+use Rattle.std.proofs.Common.{refl, ap, length, ◌∙◌, ◌+◌, arith}
 use Rattle.qs_tree.specs.Cells.{trees_of}
 use Rattle.qs_tree.specs.Splits.{front_of, behind_of}
 use Rattle.qs_match.proofs.Splits.{passes_joins, passes_length, whole_front}

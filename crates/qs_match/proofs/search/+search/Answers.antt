@@ -8,7 +8,7 @@ use Rattle.qs_match.specs.Bindings.{substitution_of, value_of_ref}
 use Rattle.qs_match.proofs.Variants.{tasks-Nothing, tasks-Then, substitution-More}
 use Rattle.qs_match.proofs.Substitutions.{binds_substitution, substitution_class}
 use Rattle.qs_match.proofs.Sides.{side_node}
-use Rattle.qs_match.proofs.Calls.{on_ok, tree_tries, tree_none, label_some, label_is, root_none, kids_none, head_tries, end_found, is_none, front_begin, front_short, front_tries, front_more, front_last, front_enough}
+use Rattle.qs_match.proofs.Calls.{on_ok, tree_appends, tree_none, label_some, label_is, root_none, kids_none, head_appends, end_found, is_none, front_begin, front_short, front_tries, front_more, front_last, front_enough}
 use Rattle.qs_match.proofs.Fronts.{splits_no}
 use Rattle.qs_match.proofs.Splits.{passes_length}
 use Rattle.qs_match.proofs.search.+search.Goals as goal
@@ -42,7 +42,7 @@ search_tree-returns-in_default t c =
 pub search_tree-returns : goal.search_tree-returns
 search_tree-returns t c =
     on_ok c.search_with.result
-    (tree_tries (tasks_of c.args.remaining.now) (substitution_of c.args.bindings.now) c.args.var (patterns c.args.rest.now) c.requires.in_class.0.0
+    (tree_appends (tasks_of c.args.remaining.now) (substitution_of c.args.bindings.now) c.args.var (patterns c.args.rest.now) c.requires.in_class.0.0
     (tree_of c.in-Some.tree.cells.now) (trees_of c.in-Some.behind.cells.now) (trees_of c.args.trees.cells.now) c.args.found.now.items c.search_with.new.found.items c.in-Some.ensures.some)
     c.search_with.ensures
 
@@ -104,7 +104,7 @@ search_node-returns-in-Label t c =
 pub search_node-returns-in-Var : goal.search_node-returns-in-Var
 search_node-returns-in-Var t c =
     on_ok c.search_with.result
-    (head_tries (tasks_of c.args.remaining.now) (substitution_of c.args.bindings.now) c.args.head c.in-Var.var (patterns c.args.kids.now) (patterns c.args.rest.now)
+    (head_appends (tasks_of c.args.remaining.now) (substitution_of c.args.bindings.now) c.args.head c.in-Var.var (patterns c.args.kids.now) (patterns c.args.rest.now)
     (tree_of c.in-Some.tree.cells.now) c.root-in-Var.result (trees_of c.in-Some.behind.cells.now) (trees_of c.args.trees.cells.now) (trees_of c.kids-in-Var.result.cells.now) (tasks_of _)
     c.args.found.now.items c.search_with.new.found.items c.in-Var.is c.requires.in_class.0.0 c.in-Some.ensures.some c.kids-in-Var.ensures c.root-in-Var.ensures (tasks-Then c.args.rest c.in-Some.behind c.args.remaining))
     c.search_with.ensures
