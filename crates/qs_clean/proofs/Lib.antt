@@ -12,3 +12,4 @@ pub mod Kept
 pub mod Renumbered
 pub mod Closures
 pub mod Whole
+pub mod NoRules

@@ -1,10 +1,10 @@
 -- What cleaning leaves, and the outcome of a cascade, are determined.
-use Rattle.std.proofs.Common.{◌≡◌, ℕ, ◌<◌, List, [], ◌∷◌, length, refl, sym, ◌∙◌, ap, ◌↔◌, subst, arith}
+use Rattle.std.proofs.Common.{◌≡◌, ℕ, ◌<◌, List, [], ◌∷◌, length, Option, Some, None, refl, sym, ◌∙◌, ap, ◌↔◌, subst, arith}
 use Rattle.qs_tree.specs.Lists.{◌∈◌}
 use Rattle.qs_pattern.specs.Rules.{Rule}
 use Rattle.qs_graph.specs.Graphs.{QGraph, arcs_at}
 use Rattle.qs_canon.specs.Rounds.{Stage, Closes}
-use Rattle.qs_clean.specs.Cleaning.{Cleans, IsEndOf}
+use Rattle.qs_clean.specs.Cleaning.{Cleans, IsEndOf, IsLeft}
 use Rattle.qs_clean.specs.Cascades.{Cascade, Left, Ending, a_graph, no_arc, no_more, limit, empty, goes_on}
 use Rattle.qs_canon.proofs.Ascending.{same_ascending}
 use Rattle.qs_canon.proofs.Rounds.{one_closure, not_both}
@@ -23,6 +23,13 @@ one_clean S G H g h =
     let nodes : G.nodes ≡ H.nodes = g.nodes ∙ ap length left ∙ sym h.nodes in
     let arcs : G.arcs ≡ H.arcs = (let p = g.arcs in let q = h.arcs in cc) in
     λ i. record { nodes = nodes i; arcs = arcs i }
+
+-- one thing is left
+pub one_answer : (S : Stage) (r t : Option QGraph) → IsLeft S r → IsLeft S t → r ≡ t
+one_answer S None None l m = refl
+one_answer S None (Some G) (E, e, none) (g, some) = absurd (omega (arith, ap length (ap (λ (H : QGraph). H.arcs) (one_clean S G E g e) ∙ none)))
+one_answer S (Some G) None (g, some) (E, e, none) = absurd (omega (arith, ap length (ap (λ (H : QGraph). H.arcs) (one_clean S G E g e) ∙ none)))
+one_answer S (Some G) (Some H) (g, some) (h, more) = ap Some (one_clean S G H g h)
 
 -- the closure and what cleaning leaves of it
 same_both : {R : List Rule} {G : QGraph} {C D : Stage} {H I : QGraph} → Closes R G C → Closes R G D → Cleans C H → Cleans D I → (C ≡ D) × (H ≡ I)

@@ -9,3 +9,6 @@ mod links;
 
 pub use cleaning::clean;
 pub use std::alloc::AllocError as Memory;
+
+#[cfg(test)]
+mod tests;
