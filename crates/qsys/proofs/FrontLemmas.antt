@@ -77,7 +77,6 @@ pub record IsLabelFront (bytes text rest : List ℕ) : Type 0 where
   pub is : IsLabelText text
   pub ends : BeginsWithNo is_label_byte rest
 
-
 pub label_is : (bytes text rest : List ℕ) → label_at bytes ≡ Some (text, rest) → IsLabelFront bytes text rest
 label_is bytes text rest e =
     let n : ℕ = prefix_len is_label_byte bytes in

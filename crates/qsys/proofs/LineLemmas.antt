@@ -132,9 +132,9 @@ rule_is bytes rule rest e =
     let P : Rest → Type 0 = λ x. IsRuleFront bytes x.0 x.1 in
     subst P m.after (record {
       whole =
-      left.whole
-      ∙ ap (λ xs. row_text l.0 ++ xs) (behind_is equals l.1 t.value t.before ∙ ap (λ xs. equals ++ xs) (right.whole ∙ ap (λ xs. row_text r.0 ++ xs) (behind_is stop r.1 m.value m.before)))
-      ∙ sym (rule_text (written l.0 r.0) m.value);
+          left.whole
+          ∙ ap (λ xs. row_text l.0 ++ xs) (behind_is equals l.1 t.value t.before ∙ ap (λ xs. equals ++ xs) (right.whole ∙ ap (λ xs. row_text r.0 ++ xs) (behind_is stop r.1 m.value m.before)))
+          ∙ sym (rule_text (written l.0 r.0) m.value);
       left = left.is;
       right = right.is;
     })
@@ -202,7 +202,7 @@ digits_is len b n rest e =
     let P : Mark → Type 0 = λ x. IsMarkFront (dash ++ b) x.0 x.1 in
     subst P m.after (record {
       whole =
-      ap (λ xs. dash ++ xs) (sym (take-append-drop len b) ∙ (λ i. number.2 i ++ behind_is dash (drop len b) m.value m.before i)) ∙ sym (mark_text s.value m.value);
+          ap (λ xs. dash ++ xs) (sym (take-append-drop len b) ∙ (λ i. number.2 i ++ behind_is dash (drop len b) m.value m.before i)) ∙ sym (mark_text s.value m.value);
       is = record { low = number.0; high = number.1 };
     })
 
@@ -327,18 +327,18 @@ graph_is bytes w e =
     let P : WrittenChain → Type 0 = λ x. IsGraphFront bytes x in
     subst P parts.1 (record {
       whole =
-      behind_is graphe bytes s.value s.before
-      ∙ ap (λ xs. graphe ++ xs)
-      (from_is.whole
-      ∙ ap (λ xs. node_mark f.0 ++ xs)
-      (behind_is space f.1 chain.value chain.before
-      ∙ ap (λ xs. space ++ xs)
-      (row_front.whole
-      ∙ ap (λ xs. row_text r.0 ++ xs)
-      (behind_is space r.1 last.value last.before
-      ∙ ap (λ xs. space ++ xs)
-      (to_is.whole
-      ∙ ap (λ xs. node_mark t.0 ++ xs) (behind_is fin t.1 end.value end.before ∙ ap (λ xs. fin ++ xs) (no_bytes end.value tests.1)))))))
-      ∙ sym (graph_pieces v);
+          behind_is graphe bytes s.value s.before
+          ∙ ap (λ xs. graphe ++ xs)
+          (from_is.whole
+          ∙ ap (λ xs. node_mark f.0 ++ xs)
+          (behind_is space f.1 chain.value chain.before
+          ∙ ap (λ xs. space ++ xs)
+          (row_front.whole
+          ∙ ap (λ xs. row_text r.0 ++ xs)
+          (behind_is space r.1 last.value last.before
+          ∙ ap (λ xs. space ++ xs)
+          (to_is.whole
+          ∙ ap (λ xs. node_mark t.0 ++ xs) (behind_is fin t.1 end.value end.before ∙ ap (λ xs. fin ++ xs) (no_bytes end.value tests.1)))))))
+          ∙ sym (graph_pieces v);
       is = record { from = from_is.is; to = to_is.is; chain = row_front.is; differ = eqb-false f.0 t.0 tests.0 };
     })

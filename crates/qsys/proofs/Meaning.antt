@@ -77,12 +77,12 @@ module _ {bytes : List ℕ} {names : List (List ℕ)} {label : Label} {rules : L
       record {
         simple = is_simple;
         reading =
-        record {
-          names_are = names_from;
-          name_is = label_of_is names label read.name_read.text distinct name_stands;
-          rules_are = rules_mean names rules read.rules_read.written distinct rules_stand;
-          graph_is = is.graph_is ∙ ap (λ (ts : List Tree). line_graph (node_of w.from w.to) ts (node_of w.to w.from)) (leaves_mean names is.labels w.texts distinct is.are);
-        };
+            record {
+              names_are = names_from;
+              name_is = label_of_is names label read.name_read.text distinct name_stands;
+              rules_are = rules_mean names rules read.rules_read.written distinct rules_stand;
+              graph_is = is.graph_is ∙ ap (λ (ts : List Tree). line_graph (node_of w.from w.to) ts (node_of w.to w.from)) (leaves_mean names is.labels w.texts distinct is.are);
+            };
       }
 
   pub name_is_named : label.0 < length names

@@ -110,8 +110,8 @@ plain_accepted left right left_some left_few right_some right_few =
       cells = omega arith;
       variables = omega arith;
       bound = λ v is.
-      let P : List Var → Type 0 = λ xs. v ∈ xs in
-      absurd (subst P (ap (λ (xs : List Var). xs ++ []) (variables_plain right)) is);
+          let P : List Var → Type 0 = λ xs. v ∈ xs in
+          absurd (subst P (ap (λ (xs : List Var). xs ++ []) (variables_plain right)) is);
     }
 
 pub accepted_sides : (left right : List Pattern) (ls rs : List Label) → patterns left ≡ plain_side ls → patterns right ≡ plain_side rs → 1 ≤ length ls → length ls ≤ 16 → 1 ≤ length rs → length rs ≤ 16

@@ -90,10 +90,10 @@ row_done most old names new bytes labels all rest text after label so few at end
     subst P (sym pushed) (record {
       texts = ts;
       front =
-      so.front
-      ∙ one_label most so.texts rest text after (omega arith) at
-      ∙ ap (λ o. further ts (others_at (most - length ts) after o)) ends
-      ∙ ap (λ xs. let r : Row = (xs, after) in Some r) (append-nil ts);
+          so.front
+          ∙ one_label most so.texts rest text after (omega arith) at
+          ∙ ap (λ o. further ts (others_at (most - length ts) after o)) ends
+          ∙ ap (λ xs. let r : Row = (xs, after) in Some r) (append-nil ts);
       names = next.names;
       are = next.are;
     })

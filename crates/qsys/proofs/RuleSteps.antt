@@ -28,13 +28,13 @@ rule_done old names new bytes l b r rest ls rs xs ys rule left middle right ends
       front = rule_reads bytes left.texts l b right.texts r rest left.front middle right.front ends;
       names = right.names ∙ ap (λ ns. fold added ns right.texts) left.names ∙ sym (fold-append added old left.texts right.texts);
       is =
-      record {
-        left_labels = ls;
-        right_labels = rs;
-        left = subst P (sym right.names) (labels_keep names right.texts ls left.texts left.are);
-        right = right.are;
-        rule_is = made ∙ (λ i. plain_rule (x i) (y i));
-      };
+          record {
+            left_labels = ls;
+            right_labels = rs;
+            left = subst P (sym right.names) (labels_keep names right.texts ls left.texts left.are);
+            right = right.are;
+            rule_is = made ∙ (λ i. plain_rule (x i) (y i));
+          };
     }
 
 -- these rules were read so far, and this is left
@@ -66,15 +66,15 @@ rules_more old names new bytes rest after rules all rule so reads pushed =
       written = ws ++ w ∷ [];
       well_formed = well_formed_push ws w so.well_formed front.left front.right;
       text =
-      so.text
-      ∙ ap (λ xs. flat_map rule_line ws ++ xs) (front.whole ∙ ap (λ xs. xs ++ after) (sym (append-nil (rule_line w))))
-      ∙ sym (append_assoc (flat_map rule_line ws) (flat_map rule_line (w ∷ [])) after)
-      ∙ ap (λ xs. xs ++ after) (sym (flat_map-append rule_line ws (w ∷ [])));
+          so.text
+          ∙ ap (λ xs. flat_map rule_line ws ++ xs) (front.whole ∙ ap (λ xs. xs ++ after) (sym (append-nil (rule_line w))))
+          ∙ sym (append_assoc (flat_map rule_line ws) (flat_map rule_line (w ∷ [])) after)
+          ∙ ap (λ xs. xs ++ after) (sym (flat_map-append rule_line ws (w ∷ [])));
       names =
-      reads.names
-      ∙ (λ i. fold added (so.names i) (sym (append-nil (texts_of w)) i))
-      ∙ sym (fold-append added old (flat_map texts_of ws) (flat_map texts_of (w ∷ [])))
-      ∙ ap (fold added old) (sym (flat_map-append texts_of ws (w ∷ [])));
+          reads.names
+          ∙ (λ i. fold added (so.names i) (sym (append-nil (texts_of w)) i))
+          ∙ sym (fold-append added old (flat_map texts_of ws) (flat_map texts_of (w ∷ [])))
+          ∙ ap (fold added old) (sym (flat_map-append texts_of ws (w ∷ [])));
       are = rules_push new rules ws rule w (subst Q (sym reads.names) (rules_keep names (texts_of w) rules ws so.are)) reads.is;
     })
 

@@ -106,6 +106,6 @@ all_there bytes name rest last rules chain e text are g =
     record {
       parts = record { name = name; rules = rules; from = chain.from; chain = chain.texts; to = chain.to };
       well_formed =
-      record { name = front.is; rules = are; chain = graph.is.chain; from = graph.is.from; to = graph.is.to; differ = graph.is.differ };
+          record { name = front.is; rules = are; chain = graph.is.chain; from = graph.is.from; to = graph.is.to; differ = graph.is.differ };
       text = front.whole ∙ ap (λ xs. name_line name ++ xs) (text ∙ ap (λ xs. lines rules ++ xs) graph.whole);
     }

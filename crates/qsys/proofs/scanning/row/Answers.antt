@@ -24,8 +24,8 @@ loop-rest-preserved c =
       within = omega (arith, c.loop-rest.invariant.within);
       few = let e = ap length pushed in let long = length-append c.loop-rest.labels.items (c.in_ok-intern.field-0 ∷ []) in omega arith;
       so =
-      row_more c.args.most c.args.names.now c.loop-rest.names c.intern.new.self c.args.bytes.now c.loop-rest.labels.items c.push.new.self.items c.loop-rest.rest.now c.in-Some.text.now
-      c.in-Some.after.now c.in-Some-behind.more.now c.in_ok-intern.field-0 c.loop-rest.invariant.so few at goes adds c.in_ok-intern.ensures.named pushed;
+          row_more c.args.most c.args.names.now c.loop-rest.names c.intern.new.self c.args.bytes.now c.loop-rest.labels.items c.push.new.self.items c.loop-rest.rest.now c.in-Some.text.now
+          c.in-Some.after.now c.in-Some-behind.more.now c.in_ok-intern.field-0 c.loop-rest.invariant.so few at goes adds c.in_ok-intern.ensures.named pushed;
     }
 
 pub returns-in-None-clause-ok : goal.returns-in-None-clause-ok

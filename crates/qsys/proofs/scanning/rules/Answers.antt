@@ -10,12 +10,12 @@ loop-alloc-preserved c =
     record {
       room = c.in-Ok.ensures.room;
       few =
-      let e = ap length pushed in
-      let long = length-append c.loop-alloc.rules.items (c.in-Ok.rule ∷ []) in
-      omega (arith, c.in-Ok.ensures.shorter, c.loop-alloc.invariant.few);
+          let e = ap length pushed in
+          let long = length-append c.loop-alloc.rules.items (c.in-Ok.rule ∷ []) in
+          omega (arith, c.in-Ok.ensures.shorter, c.loop-alloc.invariant.few);
       so =
-      rules_more c.args.names.now c.loop-alloc.names c.rule.new.names c.args.bytes.now c.loop-alloc.rest.now c.in-Ok.after.now c.loop-alloc.rules.items c.push.new.self.items c.in-Ok.rule
-      c.loop-alloc.invariant.so c.in-Ok.ensures.ok pushed;
+          rules_more c.args.names.now c.loop-alloc.names c.rule.new.names c.args.bytes.now c.loop-alloc.rest.now c.in-Ok.after.now c.loop-alloc.rules.items c.push.new.self.items c.in-Ok.rule
+          c.loop-alloc.invariant.so c.in-Ok.ensures.ok pushed;
     }
 
 pub returns-in-Err-clause-err : goal.returns-in-Err-clause-err
