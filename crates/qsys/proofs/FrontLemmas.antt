@@ -1,18 +1,15 @@
 -- What is read at the front of bytes is what they begin with, and each label, row, mark and rule at the front is read.
-use Rattle.std.proofs.Common.{◌≡◌, ℕ, zero, suc, ◌+◌, ◌*◌, ◌^◌, ◌<◌, ◌≤◌, Bool, true, false, cond, not, ◌&&◌, ◌||◌, List, [], ◌∷◌, ◌++◌, length, take, drop, Option, Some, None, refl, sym, ap, ◌∙◌, subst, arith, append_assoc, eqb, length-append, take-append-drop, inl, inr, ⊎_elim}
-use Rattle.std.specs.Prelude.{decimal, take_while, codes, flat_map, bytes_eq, ◌⊎◌}
-use Rattle.std.specs.List.{prefix_len, list_all}
-use Rattle.std.specs.Char.{is_ascii_digit}
+use Rattle.std.proofs.Common.{◌≡◌, ℕ, zero, suc, ◌<◌, ◌≤◌, Bool, true, false, cond, List, [], ◌∷◌, ◌++◌, length, take, drop, Option, Some, None, refl, sym, ap, ◌∙◌, subst, arith, append_assoc, eqb, take-append-drop, inl, inr, ⊎_elim}
+use Rattle.std.specs.Prelude.{codes, flat_map, bytes_eq, ◌⊎◌}
+use Rattle.std.specs.List.{prefix_len}
 use Rattle.std.specs.Option.{option_map, option_and_then, option_map_or}
 use Rattle.std.proofs.lemmas.List.{take_at, drop_at, append-nil, length-take-le}
 use Rattle.std.proofs.lemmas.List.Sums.{prefix_len-le-length}
-use Rattle.std.proofs.lemmas.Bool.{cond-true, cond-false, eqb-false, ne_eqb, cases_lt}
-use Rattle.std.proofs.lemmas.Bool.Decides.{nat_tests}
+use Rattle.std.proofs.lemmas.Bool.{cond-true, cond-false, eqb-false, ne_eqb}
 use Rattle.std.proofs.lemmas.Slice.Eq.{bytes_eq-Decides}
-use Rattle.qsys.specs.SimpleTexts.{WrittenRule, is_label_byte, IsLabelText, AreLabelTexts, IsRow, AreWrittenRules, row_text, name_line, rule_line, node_mark}
-use Rattle.qsys.specs.Fronts.{behind, label_at, label_before, row_at, name_at, right_at, rule_at, number_after, mark_at}
+use Rattle.qsys.specs.SimpleTexts.{is_label_byte, IsLabelText, AreLabelTexts, IsRow, row_text}
+use Rattle.qsys.specs.Fronts.{behind, label_at, label_before, row_at}
 use Rattle.qsys.proofs.Runs.{BeginsWithNo, run_len, run_is}
-use Rattle.qsys.proofs.Numbers.{number_is, number_of_decimal}
 
 -- steps of what is read
 

@@ -1,15 +1,15 @@
 -- Each line that is written is read, and what is read as a line has been written so.
-use Rattle.std.proofs.Common.{◌≡◌, ◌≢◌, ℕ, ◌+◌, ◌*◌, ◌^◌, ◌<◌, ◌≤◌, Bool, true, false, cond, not, ◌&&◌, ◌||◌, List, [], ◌∷◌, ◌++◌, length, take, drop, Option, Some, None, refl, sym, ap, ◌∙◌, subst, arith, append_assoc, eqb, take-append-drop}
-use Rattle.std.specs.Prelude.{decimal, take_while, codes}
+use Rattle.std.proofs.Common.{◌≡◌, ◌≢◌, ℕ, ◌^◌, ◌<◌, Bool, true, false, cond, not, ◌||◌, List, [], ◌∷◌, ◌++◌, length, take, drop, Option, Some, None, refl, sym, ap, ◌∙◌, subst, arith, append_assoc, eqb, take-append-drop}
+use Rattle.std.specs.Prelude.{decimal, codes}
 use Rattle.std.specs.List.{prefix_len, list_all}
 use Rattle.std.specs.Char.{is_ascii_digit, digit_value}
 use Rattle.std.specs.Str.Parse.{AllDigits}
 use Rattle.std.specs.Option.{option_map, option_and_then}
-use Rattle.std.proofs.lemmas.List.{take_at, drop_at, append-nil}
-use Rattle.std.proofs.lemmas.Bool.{cond-false, eqb-true, eqb-false, ne_eqb, and_from, or_parts, or_from, true≢false}
+use Rattle.std.proofs.lemmas.List.{take_at, drop_at}
+use Rattle.std.proofs.lemmas.Bool.{cond-false, eqb-false, ne_eqb, and_from, or_parts, or_from, true≢false}
 use Rattle.std.proofs.lemmas.Bool.Decides.{nat_tests}
 use Rattle.std.proofs.lemmas.Fmt.{decimal_is_IsNumeral}
-use Rattle.qsys.specs.SimpleTexts.{WrittenRule, is_label_byte, IsLabelText, IsRow, IsNodeNumber, row_text, line, name_line, rule_line, node_mark, chain_line}
+use Rattle.qsys.specs.SimpleTexts.{WrittenRule, IsLabelText, IsRow, IsNodeNumber, row_text, line, name_line, rule_line, node_mark, chain_line}
 use Rattle.qsys.specs.Fronts.{behind, label_at, row_at, name_at, right_at, rule_at, number_after, mark_at, WrittenChain, end_at, chain_at, graph_at}
 use Rattle.qsys.proofs.Runs.{run_len}
 use Rattle.qsys.proofs.Numbers.{number_is, number_of_decimal}

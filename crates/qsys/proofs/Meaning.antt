@@ -1,10 +1,10 @@
 -- What the three readings make together.
-use Rattle.std.proofs.Common.{◌≡◌, ℕ, ◌<◌, List, [], ◌∷◌, ◌++◌, length, map, refl, sym, ap, ◌∙◌, subst, arith, Some, Result, Ok, Err, IfErr}
+use Rattle.std.proofs.Common.{◌≡◌, ℕ, ◌<◌, List, [], ◌∷◌, ◌++◌, length, refl, sym, ap, ◌∙◌, subst, arith, Some, Result, Err, IfErr}
 use Rattle.std.specs.Prelude.{fold, flat_map, slice_get}
 use Rattle.std.proofs.lemmas.Grind.{fold-append}
 use Rattle.std.proofs.lemmas.Option.{slice_get_within}
 use Rattle.qs_tree.specs.Names.{AreDistinct}
-use Rattle.qs_tree.specs.Trees.{Tree, node}
+use Rattle.qs_tree.specs.Trees.{Tree}
 use Rattle.qs_tree.specs.declared.cell.Label.{Label}
 use Rattle.qs_pattern.specs.Rules.{Rule}
 use Rattle.qs_graph.specs.Graphs.{QGraph}
@@ -12,8 +12,7 @@ use Rattle.qs_graph.specs.Chains.{line_graph}
 use Rattle.std.proofs.lemmas.Result.{IfErr-at_err}
 use Rattle.qsys.specs.declared.simple.SimpleEnd.{SimpleEnd}
 use Rattle.qsys.specs.declared.simple.SimpleEnd.TheVariants.{NotYetRead, Memory}
-use Rattle.qsys.specs.SimpleTexts.{WrittenRule, Parts, IsSimple, IsReading, IsReadingOf, added, names_of, label_texts, node_of}
-use Rattle.qsys.specs.Fronts.{graph_at}
+use Rattle.qsys.specs.SimpleTexts.{IsSimple, IsReadingOf, added, node_of}
 use Rattle.qsys.specs.Named.{AreRulesNamed, AreArcsNamed}
 use Rattle.qsys.specs.Interned.{AreRulesOf, ReadsName, ReadsRules, ReadsGraph}
 use Rattle.qsys.proofs.NameLemmas.{fold_keeps, fold_distinct, none_distinct, label_of_is}

@@ -1,5 +1,5 @@
 -- Rules and graphs of labels alone: they are accepted, they mean what is written, and their labels are named.
-use Rattle.std.proofs.Common.{◌≡◌, ℕ, suc, ◌+◌, ◌<◌, ◌≤◌, List, [], ◌∷◌, ◌++◌, length, map, take, get_or, Option, Some, None, refl, sym, ap, ◌∙◌, subst, arith, Global}
+use Rattle.std.proofs.Common.{◌≡◌, ℕ, ◌+◌, ◌<◌, ◌≤◌, List, [], ◌∷◌, ◌++◌, length, map, take, get_or, Some, None, refl, sym, ap, ◌∙◌, subst, arith, Global}
 use Rattle.std.specs.Prelude.{fold, slice_get}
 use Rattle.std.specs.declared.vec.Vec.{Vec}
 use Rattle.std.proofs.lemmas.List.{map-append, take_more}
@@ -7,7 +7,7 @@ use Rattle.std.proofs.lemmas.Option.{slice_get_within}
 use mathlib.Core.Former.{Count}
 use Rattle.qs_tree.specs.Lists.{◌∈◌}
 use Rattle.qs_tree.specs.Names.{AreDistinct}
-use Rattle.qs_tree.specs.Trees.{Tree, node}
+use Rattle.qs_tree.specs.Trees.{node}
 use Rattle.qs_tree.specs.declared.cell.Label.{Label}
 use Rattle.qs_pattern.specs.declared.variable.Var.{Var}
 use Rattle.qs_pattern.specs.declared.pattern.Head.{Head}
@@ -16,9 +16,8 @@ use Rattle.qs_pattern.specs.declared.pattern.Pattern.{Pattern, Node, Node', Tree
 use Rattle.qs_pattern.specs.declared.pattern.Pattern.TheBlock.{hidden-the_row-Pattern-0}
 use Rattle.qs_pattern.specs.Variables.{firsts}
 use Rattle.qs_pattern.specs.Patterns.{Patterns, no_pattern, node_first, tree_var_first, forest_var_first, one_pattern, pattern_before, row_patterns, patterns, count, cells, variables_in, AreInClass, NoForestAtTop}
-use Rattle.qs_pattern.specs.Rules.{Rule, IsSide, IsAccepted, rule_variables}
-use Rattle.qs_graph.specs.Graphs.{Arc}
-use Rattle.qs_graph.specs.Chains.{chain, line_graph}
+use Rattle.qs_pattern.specs.Rules.{Rule, IsSide, IsAccepted}
+use Rattle.qs_graph.specs.Chains.{chain}
 use Rattle.qsys.specs.SimpleTexts.{WrittenRule, added, label_of, side_of, rule_of}
 use Rattle.qsys.specs.Named.{ArePatternsNamed, AreRulesNamed, AreArcsNamed}
 use Rattle.qsys.specs.Interned.{AreLabelsOf, plain_side, plain_rule, IsRuleOf, AreRulesOf}

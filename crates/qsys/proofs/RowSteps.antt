@@ -1,6 +1,6 @@
 -- The steps of reading a row.
 use Rattle.std.proofs.Common.{◌≡◌, ℕ, zero, suc, ◌+◌, ◌-◌, ◌<◌, ◌≤◌, List, [], ◌∷◌, ◌++◌, length, Option, Some, None, refl, sym, ap, ◌∙◌, subst, arith, append_assoc, length-append}
-use Rattle.std.specs.Prelude.{codes, fold, slice_get}
+use Rattle.std.specs.Prelude.{fold, slice_get}
 use Rattle.std.specs.Option.{option_map}
 use Rattle.std.proofs.lemmas.List.{append-nil}
 use Rattle.std.proofs.lemmas.Grind.{fold-append}
@@ -9,7 +9,7 @@ use Rattle.qsys.specs.SimpleTexts.{added}
 use Rattle.qsys.specs.Fronts.{behind, label_at, label_before, row_at}
 use Rattle.qsys.specs.Interned.{AreLabelsOf, ReadsRow}
 use Rattle.qsys.proofs.NameLemmas.{added_length}
-use Rattle.qsys.proofs.FrontLemmas.{then_at, then_none, Row, plus, others_at, row_step, row_at-suc, row_at-zero, no_row}
+use Rattle.qsys.proofs.FrontLemmas.{then_at, Row, plus, others_at, row_step, row_at-suc, row_at-zero, no_row}
 use Rattle.qsys.proofs.PlainLemmas.{labels_length, labels_push, labels_keep}
 
 -- texts before a row

@@ -1,10 +1,10 @@
 -- A text has its parts in one way only.
-use Rattle.std.proofs.Common.{◌≡◌, ℕ, Bool, true, false, ◌&&◌, List, [], ◌∷◌, ◌++◌, Option, Some, None, refl, sym, ap, ◌∙◌, subst, append_assoc, eqb, arith}
+use Rattle.std.proofs.Common.{◌≡◌, ℕ, true, List, [], ◌∷◌, ◌++◌, Some, None, refl, sym, ap, ◌∙◌, subst, append_assoc, eqb, arith}
 use Rattle.std.specs.Prelude.{codes, flat_map, nat_eq}
 use Rattle.std.specs.List.{starts_with}
 use Rattle.std.proofs.lemmas.Bool.{true≢false, eqb-true, and_parts}
 use Rattle.qsys.specs.SimpleTexts.{WrittenRule, Parts, IsSimple, AreWellFormed, AreWrittenRules, name_line, rule_line, simple_text}
-use Rattle.qsys.specs.Fronts.{row_at, name_at, rule_at, graph_at, WrittenChain, AreRulesThenDash}
+use Rattle.qsys.specs.Fronts.{name_at, rule_at, graph_at, WrittenChain, AreRulesThenDash}
 use Rattle.qsys.proofs.FrontLemmas.{no_row}
 use Rattle.qsys.proofs.LineLemmas.{name_found, name_is, rule_found, rule_none, graph_text, IsChain, graph_found, graph_is}
 

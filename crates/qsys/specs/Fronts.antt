@@ -1,17 +1,10 @@
 -- What stands at the front of the bytes of a simple text, read from the left, and the bytes behind it. `read_simple` is
 -- proved against `SimpleTexts`, and not against this.
-use Rattle.std.specs.Prelude.{◌≡◌, ℕ, zero, suc, ◌+◌, ◌-◌, ◌*◌, ◌<◌, ◌≤◌, Bool, ◌&&◌, ◌||◌, ◌==◌, nat_eq, nat_le, not, if◌then◌else◌, List, [], ◌∷◌, ◌++◌, length, map, fold, take, drop, flat_map, take_while, codes, slice_get, slice_index, Option, Some, None, option_map, option_and_then}
+use Rattle.std.specs.Prelude.{◌≡◌, ℕ, zero, suc, ◌+◌, ◌-◌, ◌*◌, ◌&&◌, ◌||◌, ◌==◌, nat_eq, nat_le, not, if◌then◌else◌, List, [], ◌∷◌, ◌++◌, length, take, drop, flat_map, take_while, codes, Option, Some, None, option_map, option_and_then}
 use Rattle.std.specs.List.{prefix_len, starts_with}
 use Rattle.std.specs.Option.{option_map_or}
 use Rattle.std.specs.Char.{is_ascii_digit}
-use Rattle.qs_tree.specs.declared.cell.Label.{Label}
-use Rattle.qs_tree.specs.Trees.{node}
-use Rattle.qs_pattern.specs.declared.pattern.Head.TheVariants as head
-use Rattle.qs_pattern.specs.Patterns.{Patterns, no_pattern, node_first}
-use Rattle.qs_pattern.specs.Rules.{Rule}
-use Rattle.qs_graph.specs.Graphs.{QGraph}
-use Rattle.qs_graph.specs.Chains.{line_graph}
-use Rattle.qsys.specs.SimpleTexts.{WrittenRule, AreWrittenRules, is_label_byte, rule_line, node_of, added}
+use Rattle.qsys.specs.SimpleTexts.{WrittenRule, AreWrittenRules, is_label_byte, rule_line}
 
 -- the bytes behind a literal, where they begin with it
 abbrev pub behind : List ℕ → List ℕ → Option (List ℕ)

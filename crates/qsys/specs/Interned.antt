@@ -1,6 +1,6 @@
 -- What is made of the front of a simple text: labels whose numbers stand for the texts that were read, and rules and a
 -- graph of such labels. `read_simple` is proved against `SimpleTexts`, and not against this.
-use Rattle.std.specs.Prelude.{◌≡◌, ℕ, ◌<◌, ◌≤◌, List, [], ◌∷◌, ◌++◌, length, map, fold, flat_map, slice_get, codes, nat_eq, true, Some, None}
+use Rattle.std.specs.Prelude.{◌≡◌, ℕ, List, [], ◌∷◌, ◌++◌, map, fold, flat_map, slice_get, codes, nat_eq, true, Some, None}
 use Rattle.std.specs.List.{starts_with}
 use Rattle.qs_tree.specs.declared.cell.Label.{Label}
 use Rattle.qs_tree.specs.Trees.{node}
@@ -9,7 +9,7 @@ use Rattle.qs_pattern.specs.Patterns.{Patterns, no_pattern, node_first}
 use Rattle.qs_pattern.specs.Rules.{Rule}
 use Rattle.qs_graph.specs.Graphs.{QGraph}
 use Rattle.qs_graph.specs.Chains.{line_graph}
-use Rattle.qsys.specs.SimpleTexts.{WrittenRule, AreWrittenRules, IsLabelText, rule_line, node_of, added}
+use Rattle.qsys.specs.SimpleTexts.{WrittenRule, AreWrittenRules, rule_line, node_of, added}
 use Rattle.qsys.specs.Fronts.{WrittenChain, name_at, row_at, rule_at, graph_at}
 
 -- these labels have these texts

@@ -1,7 +1,7 @@
 -- Labels that are among the first n, which are those that n names name. Each of these facts has one proof at most, as a
 -- type has to have of what it keeps.
 use Rattle.std.specs.Prelude.{ℕ, ◌<◌, List, [], ◌∷◌, Option, Some, None}
-use Rattle.std.specs.Coded.{×_prop, Unit-prop, le_prop}
+use Rattle.std.specs.Coded.{Unit-prop, le_prop}
 use Rattle.qs_tree.specs.Trees.{Forest, no_tree, first_tree}
 use Rattle.qs_tree.specs.Text.{AreNamed, IsNamed}
 use Rattle.qs_pattern.specs.declared.pattern.Head.{Head}

@@ -1,4 +1,4 @@
-use Rattle.std.proofs.Common.{◌≡◌, map, ap, ◌∙◌}
+use Rattle.std.proofs.Common.{map, ap, ◌∙◌}
 use Rattle.std.proofs.lemmas.List.{take_all}
 use Rattle.qsys.proofs.PlainLemmas.{side_from_map, side_more, plain_one}
 use Rattle.qsys.proofs.making.plain_side.Goals as goal

@@ -2,7 +2,6 @@ use Rattle.std.proofs.Common.{◌≡◌, ◌+◌, ◌∙◌, length, Some, true,
 use Rattle.std.specs.Prelude.{codes}
 use Rattle.qsys.specs.Fronts.{behind, mark_at}
 use Rattle.qsys.specs.Interned.{plain_graph}
-use Rattle.qsys.specs.SimpleTexts.{node_of}
 use Rattle.qsys.proofs.GraphSteps.{graph_done, nodes_of_both}
 use Rattle.qsys.proofs.scanning.graph.Goals as goal
 

@@ -1,4 +1,4 @@
-use Rattle.std.proofs.Common.{◌≡◌, ◌<◌, ◌≤◌, ◌+◌, ◌++◌, ◌∷◌, [], List, length, Some, None, arith, ap, length-append}
+use Rattle.std.proofs.Common.{◌≡◌, ◌<◌, ◌≤◌, ◌∷◌, [], length, Some, None, arith, ap, length-append}
 use Rattle.std.specs.Prelude.{codes}
 use Rattle.qsys.specs.SimpleTexts.{added}
 use Rattle.qsys.specs.Fronts.{behind, label_at}

@@ -1,4 +1,4 @@
-use Rattle.std.proofs.Common.{◌≡◌, ◌+◌, ◌++◌, ◌∷◌, [], length, false, arith, ap, length-append}
+use Rattle.std.proofs.Common.{◌≡◌, ◌∷◌, [], length, false, arith, ap, length-append}
 use Rattle.std.specs.Prelude.{codes, nat_eq}
 use Rattle.std.specs.List.{starts_with}
 use Rattle.qsys.proofs.RuleSteps.{rules_more, rules_stuck}
