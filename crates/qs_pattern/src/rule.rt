@@ -46,6 +46,7 @@ impl Rule {
     pub fn left(&self) -> &[Pattern]
         ensures value { patterns result.now ≡ self.now.left }
         ensures accepted { IsAccepted self.now }
+        ensures unconditional { self.now.condition ≡ None }
     {
         &self.left
     }
@@ -54,6 +55,7 @@ impl Rule {
     pub fn right(&self) -> &[Pattern]
         ensures value { patterns result.now ≡ self.now.right }
         ensures accepted { IsAccepted self.now }
+        ensures unconditional { self.now.condition ≡ None }
     {
         &self.right
     }

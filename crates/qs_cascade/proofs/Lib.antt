@@ -1,0 +1,17 @@
+pub mod Places
+pub mod Leavings
+pub mod Findings
+pub mod Following
+pub mod Refusing
+pub mod Paths
+pub mod Extending
+pub mod Starting
+pub mod Together
+pub mod Laying
+pub mod Reaching
+pub mod Closings
+pub mod Taken
+pub mod Leaves
+pub mod Growth
+pub mod Additions
+pub mod Doing

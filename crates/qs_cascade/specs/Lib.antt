@@ -1,0 +1,4 @@
+pub mod Leaving
+pub mod Finding
+pub mod Closing
+pub mod Stages

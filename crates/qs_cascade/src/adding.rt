@@ -1,0 +1,95 @@
+//! What firings add to a graph.
+
+ghost use Rattle.std.specs.Prelude.{◌≡◌, ◌<◌, ◌≤◌, ◌+◌, ◌-◌, ◌*◌, ◌^◌, ℕ, List, length, IfOk, OnOk};
+ghost use Rattle.qs_tree.specs.Lists.{◌∈◌};
+ghost use Rattle.qs_graph.specs.Graphs.{Arc, IsNode, IsPath};
+ghost use Rattle.qs_firing.specs.Firings.{Firing as FiringOfRule, Fires};
+ghost use Rattle.qs_firing.specs.Adding.{adds, built, start_of, end_of};
+ghost use Rattle.qs_canon.specs.Rounds.{after};
+
+use crate::arcs::Arcs;
+use qs_canon::Placed;
+use qs_firing::Firing;
+use qs_pattern::{Rule, instance};
+use qs_tree::Tree;
+use std::alloc::{AllocError, Global};
+
+// The node at which a path starts.
+fn path_start(arcs: &Arcs, path: &[u32]) -> u32
+    requires { (a : ℕ) × (b : ℕ) × IsPath arcs.now.arcs a path.now b }
+    ensures value { result ≡ start_of arcs.now.arcs path.now }
+    ensures node { IsNode arcs.now result }
+{
+    arcs.edge(path[0]).from
+}
+
+// The node at which a path ends.
+fn path_end(arcs: &Arcs, path: &[u32]) -> u32
+    requires { (a : ℕ) × (b : ℕ) × IsPath arcs.now.arcs a path.now b }
+    ensures value { result ≡ end_of arcs.now.arcs path.now }
+    ensures node { IsNode arcs.now result }
+{
+    arcs.edge(path[path.len() - 1]).to
+}
+
+// The trees that a firing builds: 1 to 16 of them.
+fn built_trees(alloc: Global, rules: &[Rule], firing: &Firing) -> Result<Vec<Tree>, AllocError>
+    requires { (arcs : List Arc) × Fires rules.now arcs firing.now }
+    ensures value { IfOk result (λ v. v.items ≡ built rules.now firing.now) }
+    ensures some { IfOk result (λ v. 0 < length v.items) }
+    ensures few { IfOk result (λ v. length v.items ≤ 16) }
+{
+    let rule = &rules[firing.rule as usize];
+    let trees = instance(alloc, rule.right(), &firing.subst)?;
+    Ok(trees)
+}
+
+/// Adds what one firing of the rules builds: a chain of its trees between the ends of its path. After an error some of it
+/// may be there.
+pub fn add(
+    alloc: Global,
+    rules: &[Rule],
+    arcs: &mut Arcs,
+    firing: &Firing,
+) -> Result<(), AllocError>
+    requires fires { Fires rules.now arcs.old.arcs firing.now }
+    requires arcs { length arcs.old.arcs + 16 < 2 ^ 32 - 1 }
+    requires nodes { arcs.old.nodes + 16 < 2 ^ 32 - 1 }
+    ensures ok { OnOk result (arcs.new ≡ adds rules.now arcs.old firing.now) }
+    ensures arcs { OnOk result (length arcs.new.arcs ≤ length arcs.old.arcs + 16) }
+    ensures nodes { OnOk result (arcs.new.nodes ≤ arcs.old.nodes + 16) }
+{
+    let from = path_start(arcs, &firing.path);
+    let to = path_end(arcs, &firing.path);
+    let trees = built_trees(alloc, rules, firing)?;
+    arcs.add_chain(from, to, trees)?;
+    Ok(())
+}
+
+/// Does the firings of a round in order. After an error some of them may be done.
+pub fn do_round(
+    alloc: Global,
+    rules: &[Rule],
+    arcs: &mut Arcs,
+    done: &mut Vec<Placed>,
+    found: Vec<Firing>,
+    round: u32,
+) -> Result<(), AllocError>
+    requires fire { (f : FiringOfRule) → f ∈ found.items → Fires rules.now arcs.old.arcs f }
+    requires arcs { length arcs.old.arcs + 16 * length found.items < 2 ^ 32 - 1 }
+    requires nodes { arcs.old.nodes + 16 * length found.items < 2 ^ 32 - 1 }
+    ensures stage { OnOk result (record { graph = arcs.new; done = done.new.items } ≡ after rules.now round (record { graph = arcs.old; done = done.old.items }) found.items) }
+    ensures arcs { OnOk result (length arcs.new.arcs ≤ length arcs.old.arcs + 16 * length found.items) }
+    ensures nodes { OnOk result (arcs.new.nodes ≤ arcs.old.nodes + 16 * length found.items) }
+{
+    for firing in found {
+        let first = arcs.len();
+        add(alloc, rules, arcs, &firing)?;
+        done.push(Placed {
+            firing,
+            first,
+            round,
+        })?;
+    }
+    Ok(())
+}

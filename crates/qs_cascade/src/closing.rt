@@ -1,0 +1,63 @@
+//! The closure of a grammar.
+
+ghost use Rattle.std.specs.Prelude.{◌≡◌, ◌<◌, ◌≤◌, ◌+◌, ◌-◌, ◌*◌, ◌^◌, length, IfOk};
+ghost use Rattle.qs_tree.specs.Lists.{◌∈◌};
+ghost use Rattle.qs_pattern.specs.Rules.{Rule as RuleOfPatterns, IsAccepted};
+ghost use Rattle.qs_cascade.specs.Closing.{ClosesOrNeeds};
+
+use crate::adding::do_round;
+use crate::arcs::Arcs;
+use crate::rounds::new_firings;
+use qs_canon::Closure;
+use qs_graph::Graph;
+use qs_pattern::Rule;
+use std::alloc::{AllocError, Global};
+
+// Every rule is an accepted one, by its type.
+fn know_accepted(rules: &[Rule])
+    ensures { (rule : RuleOfPatterns) → rule ∈ rules.now → IsAccepted rule }
+{
+    for rule in rules {
+        let _left = rule.left();
+    }
+}
+
+/// The closure of the rules from a graph, round by round, as the rounds are defined; or None where the rules need more
+/// firings than the limit. The limit is at least 1, and the numbers of arcs and of nodes of the graph, each with 16 times
+/// the limit, fit a `u32`.
+pub fn closure(
+    alloc: Global,
+    rules: &[Rule],
+    start: &Graph,
+    limit: u32,
+) -> Result<Option<Closure>, AllocError>
+    requires limit { 1 ≤ limit }
+    requires rules { length rules.now < 4294967295 }
+    requires arcs { length start.now.arcs + 16 * limit < 2 ^ 32 - 1 }
+    requires nodes { start.now.nodes + 16 * limit < 2 ^ 32 - 1 }
+    ensures { IfOk result (λ c. ClosesOrNeeds rules.now start.now limit c) }
+{
+    know_accepted(rules);
+    let mut arcs = Arcs::of(alloc, start)?;
+    let mut done = Vec::new(alloc);
+    let mut old = 0;
+    let mut round = 0;
+    'rounds: loop {
+        let room = limit as usize - done.len();
+        let Some(found) = new_firings(alloc, rules, &arcs, old, room)? else {
+            return Ok(None);
+        };
+        if found.is_empty() {
+            let entry = start.entry();
+            let exit = start.exit();
+            let first = start.edges().len() as u32;
+            return Ok(Some(arcs.into_closure(entry, exit, first, done)));
+        }
+        if found.len() > room {
+            return Ok(None);
+        }
+        old = arcs.len();
+        round += 1;
+        do_round(alloc, rules, &mut arcs, &mut done, found, round)?;
+    }
+}

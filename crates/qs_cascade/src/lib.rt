@@ -1,0 +1,12 @@
+//! One grammar: the closure of its rules over a graph, and what cleaning leaves of it.
+#![tactic(auto)]
+
+mod adding;
+mod arcs;
+mod closing;
+mod rounds;
+mod search;
+mod stage;
+
+pub use stage::{StageEnd, stage_alone};
+pub use std::alloc::AllocError as Memory;

@@ -1,0 +1,44 @@
+//! What a grammar leaves.
+
+ghost use Rattle.std.specs.Prelude.{◌≡◌, ◌<◌, ◌≤◌, ◌+◌, ◌-◌, ◌*◌, ◌^◌, length, IfOk};
+ghost use Rattle.qs_cascade.specs.Stages.{IsStageEnd};
+
+use crate::closing::closure;
+use qs_clean::clean;
+use qs_graph::Graph;
+use qs_pattern::Rule;
+use std::alloc::{AllocError, Global};
+
+/// What a grammar leaves: a graph, or no arc, each with the number of firings that were done; or its rules need more
+/// firings than the limit.
+#[derive(Drop)]
+pub enum StageEnd {
+    Left { graph: Graph, firings: u32 },
+    Empty { firings: u32 },
+    Over,
+}
+
+/// Runs one grammar on a graph, alone: the closure of its rules, round by round, and what cleaning leaves of it. The limit
+/// is at least 1, and the numbers of arcs and of nodes of the graph, each with 16 times the limit, fit a `u32`. It always
+/// returns.
+pub fn stage_alone(
+    alloc: Global,
+    rules: &[Rule],
+    start: &Graph,
+    limit: u32,
+) -> Result<StageEnd, AllocError>
+    requires limit { 1 ≤ limit }
+    requires rules { length rules.now < 4294967295 }
+    requires arcs { length start.now.arcs + 16 * limit < 2 ^ 32 - 1 }
+    requires nodes { start.now.nodes + 16 * limit < 2 ^ 32 - 1 }
+    ensures { IfOk result (λ end. IsStageEnd rules.now start.now limit end) }
+{
+    let Some(closure) = closure(alloc, rules, start, limit)? else {
+        return Ok(StageEnd::Over);
+    };
+    let firings = closure.firings.len() as u32;
+    match clean(alloc, &closure)? {
+        Some(graph) => Ok(StageEnd::Left { graph, firings }),
+        None => Ok(StageEnd::Empty { firings }),
+    }
+}
