@@ -9,3 +9,9 @@ pub mod RowSteps
 pub mod RuleSteps
 pub mod Meaning
 pub mod GraphSteps
+pub mod LimitLemmas
+pub mod KeepingNames
+pub mod Running
+pub mod OneDefinition
+pub mod ReadWords
+pub mod Ending

@@ -1,0 +1,31 @@
+-- The outcome of a cascade: the text that is written for it, and how it ends. The chaining is Colmerauer's (1970), the text
+-- this project's own.
+use Rattle.std.specs.Prelude.{◌≡◌, ℕ, List, [], ◌∷◌, ◌++◌, map}
+use Rattle.qs_tree.specs.declared.cell.Label.{Label}
+use Rattle.qs_pattern.specs.Rules.{Rule}
+use Rattle.qs_graph.specs.Graphs.{QGraph}
+use Rattle.qs_clean.specs.Cascades.{Cascade, Left, a_graph, no_arc, over, Ending}
+use Rattle.qsys.specs.Texts.{graph_block, empty_block, limit_block}
+
+-- A grammar is a name and a list of rules.
+pub record Grammar : Type 0 where
+  pub name : Label
+  pub rules : List Rule
+
+-- The block that is written behind a grammar with this name, by what it leaves.
+abbrev pub block : ℕ → List (List ℕ) → Label → Left → List ℕ
+block limit names name (a_graph firings graph) = graph_block names name firings graph
+block limit names name (no_arc firings) = empty_block names name firings
+block limit names name over = limit_block names name limit
+
+-- The blocks of the grammars that were run, in order.
+abbrev pub blocks : ℕ → List (List ℕ) → List Grammar → List Left → List ℕ
+blocks limit names [] lefts = []
+blocks limit names (grammar ∷ grammars) [] = []
+blocks limit names (grammar ∷ grammars) (left ∷ lefts) = block limit names grammar.name left ++ blocks limit names grammars lefts
+
+-- This text is written for the cascade of these grammars from the graph, and the cascade ends so.
+pub record IsOutcome (limit : ℕ) (names : List (List ℕ)) (graph : QGraph) (grammars : List Grammar) (text : List ℕ) (ending : Ending) : Type 0 where
+  pub lefts : List Left
+  pub cascade : Cascade limit graph (map (λ grammar. grammar.rules) grammars) lefts ending
+  pub text_is : text ≡ blocks limit names grammars lefts

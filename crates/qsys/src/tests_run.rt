@@ -1,0 +1,191 @@
+use crate::status::Status;
+use crate::top::qsys;
+use crate::words::read_words;
+use qs_io::{MemSink, MemSource, SureSource};
+use std::alloc::{AllocError, Global};
+use std::test::Fail;
+
+const TEXT: &[u8] = b"-SYSTEME- S.\nA == B.\n-GRAPHE-\n-1- A -2-.\n-FIN-\n";
+
+const USAGE: &[u8] = b"usage: qsys run|check|graph|made [--limit N] [--workers N] [--size N]\n";
+
+// The words of a line.
+fn words_of(alloc: Global, line: &str) -> Result<Vec<String>, AllocError> {
+    let mut words = Vec::new(alloc);
+    for word in line.split_whitespace() {
+        words.push(String::from_str(alloc, word)?)?;
+    }
+    Ok(words)
+}
+
+// What is answered and written where nothing fails.
+fn outcome(alloc: Global, line: &str, text: &[u8]) -> Result<(Status, Vec<u8>), AllocError> {
+    let words = words_of(alloc, line)?;
+    let mut source = SureSource::new(alloc, text.to_vec(alloc)?, 100);
+    let mut sink = MemSink::new(alloc, 1000, 1000, vec![in alloc]?)?;
+    let status = qsys(alloc, &words, &mut source, &mut sink);
+    Ok((status, sink.written().to_vec(alloc)?))
+}
+
+#[test]
+fn a_grammar_gives_its_block_and_a_limit_that_is_met_its_line(rt: HostRuntime) -> Result<(), Fail> {
+    for (case, line, text, status, written) in [
+        (
+            "one rule rewrites the one arc",
+            "run",
+            TEXT,
+            Status::Done,
+            b"# S 1\n-GRAPHE-\n-1- B -2-.\n-FIN-\n".as_slice(),
+        ),
+        (
+            "a graph without rules keeps its arcs, and its nodes are numbered from 1",
+            "run",
+            b"-SYSTEME- S.\n-GRAPHE-\n-10- A -20-.\n-FIN-\n".as_slice(),
+            Status::Done,
+            b"# S 0\n-GRAPHE-\n-1- A -2-.\n-FIN-\n".as_slice(),
+        ),
+        (
+            "a rule that builds its own left side meets the limit",
+            "run --limit 5",
+            b"-SYSTEME- S.\nA == A.\n-GRAPHE-\n-1- A -2-.\n-FIN-\n".as_slice(),
+            Status::Limit,
+            b"# S\n-LIMITE- 5.\n".as_slice(),
+        ),
+        (
+            "two equal rules give two arcs, by two firings",
+            "run --limit 2",
+            b"-SYSTEME- S.\nA == B.\nA == B.\n-GRAPHE-\n-1- A -2-.\n-FIN-\n".as_slice(),
+            Status::Done,
+            b"# S 2\n-GRAPHE-\n-1- B -2-.\n-1- B -2-.\n-FIN-\n".as_slice(),
+        ),
+        (
+            "two equal rules need more than one firing",
+            "run --limit 1",
+            b"-SYSTEME- S.\nA == B.\nA == B.\n-GRAPHE-\n-1- A -2-.\n-FIN-\n".as_slice(),
+            Status::Limit,
+            b"# S\n-LIMITE- 1.\n".as_slice(),
+        ),
+        (
+            "a longer right side goes through new nodes",
+            "run",
+            b"-SYSTEME- S.\nDU == DE + LE.\n-GRAPHE-\n-1- VIENT + DU + SUD -2-.\n-FIN-\n".as_slice(),
+            Status::Done,
+            b"# S 1\n-GRAPHE-\n-1- VIENT -3-.\n-4- SUD -2-.\n-3- DE -5-.\n-5- LE -4-.\n-FIN-\n".as_slice(),
+        ),
+        (
+            "a text that isn't simple is refused",
+            "run",
+            b"-SYSTEME- S.\nA(B) == C.\n-GRAPHE-\n-1- A -2-.\n-FIN-\n".as_slice(),
+            Status::Refused,
+            b"-REFUS- 1 1 NotYetRead.\n".as_slice(),
+        ),
+    ] {
+        let found = outcome(rt.alloc(), line, text)?;
+        assert_eq!(rt; found.0, status, "{case}");
+        assert_eq!(rt; found.1.as_slice(), written, "{case}");
+    }
+    Ok(())
+}
+
+#[test]
+fn a_text_one_byte_too_long_gives_nothing(rt: HostRuntime) -> Result<(), Fail> {
+    let alloc = rt.alloc();
+    let words = words_of(alloc, "run")?;
+    let mut source = MemSource::new(
+        alloc,
+        vec![in alloc; b' '; 4_194_305]?,
+        5000,
+        vec![in alloc]?,
+    );
+    let mut sink = MemSink::new(alloc, 1000, 1000, vec![in alloc]?)?;
+    assert_eq!(rt;
+        qsys(alloc, &words, &mut source, &mut sink),
+        Status::TooLong
+    );
+    assert_eq!(rt; sink.written(), b"".as_slice());
+    Ok(())
+}
+
+#[test]
+fn a_source_that_fails_at_its_third_read_gives_nothing(rt: HostRuntime) -> Result<(), Fail> {
+    let alloc = rt.alloc();
+    let words = words_of(alloc, "run")?;
+    let mut source = MemSource::new(alloc, TEXT.to_vec(alloc)?, 8, vec![in alloc; 3]?);
+    let mut sink = MemSink::new(alloc, 1000, 1000, vec![in alloc]?)?;
+    assert_eq!(rt;
+        qsys(alloc, &words, &mut source, &mut sink),
+        Status::ReadFault
+    );
+    assert_eq!(rt; source.faults(), 1);
+    assert_eq!(rt; sink.written(), b"".as_slice());
+    Ok(())
+}
+
+#[test]
+fn a_sink_that_fails_at_its_second_piece_has_a_prefix(rt: HostRuntime) -> Result<(), Fail> {
+    let alloc = rt.alloc();
+    let words = words_of(alloc, "run")?;
+    let mut source = MemSource::new(alloc, TEXT.to_vec(alloc)?, 100, vec![in alloc]?);
+    let mut sink = MemSink::new(alloc, 1000, 10, vec![in alloc; 2]?)?;
+    assert_eq!(rt;
+        qsys(alloc, &words, &mut source, &mut sink),
+        Status::WriteFault
+    );
+    assert_eq!(rt; sink.faults(), 1);
+    assert_eq!(rt; sink.written(), b"# S 1\n-GRA".as_slice());
+    Ok(())
+}
+
+#[test]
+fn a_block_is_one_write(rt: HostRuntime) -> Result<(), Fail> {
+    let alloc = rt.alloc();
+    let words = words_of(alloc, "run")?;
+    let mut source = MemSource::new(alloc, TEXT.to_vec(alloc)?, 100, vec![in alloc]?);
+    let mut sink = MemSink::new(alloc, 1000, 1000, vec![in alloc; 2]?)?;
+    assert_eq!(rt; qsys(alloc, &words, &mut source, &mut sink), Status::Done);
+    Ok(())
+}
+
+#[test]
+fn other_words_give_the_usage_line_and_nothing_is_read(rt: HostRuntime) -> Result<(), Fail> {
+    let alloc = rt.alloc();
+    for line in [
+        "",
+        "walk",
+        "Run",
+        "run run",
+        "run --limit",
+        "run --limit 0",
+        "run --limit 05",
+        "run --limit +5",
+        "run --limit 5x",
+        "run --limit 100001",
+        "run --limit 18446744073709551617",
+        "run --limit 5 6",
+    ] {
+        let words = words_of(alloc, line)?;
+        let mut source = MemSource::new(alloc, TEXT.to_vec(alloc)?, 100, vec![in alloc]?);
+        let mut sink = MemSink::new(alloc, 1000, 1000, vec![in alloc]?)?;
+        let status = qsys(alloc, &words, &mut source, &mut sink);
+        assert_eq!(rt; status, Status::Usage, "{line}");
+        assert_eq!(rt; sink.written(), USAGE, "{line}");
+        assert_eq!(rt; source.left(), TEXT, "{line}");
+    }
+    Ok(())
+}
+
+#[test]
+fn words_give_a_limit_from_1_to_100000(rt: HostRuntime) -> Result<(), Fail> {
+    for (line, limit) in [
+        ("run", 10_000),
+        ("run --limit 1", 1),
+        ("run --limit 5", 5),
+        ("run --limit 100000", 100_000),
+    ] {
+        let words = words_of(rt.alloc(), line)?;
+        let job = read_words(&words).ok_or(line)?;
+        assert_eq!(rt; job.limit, limit, "{line}");
+        assert_eq!(rt; job.workers, 1, "{line}");
+    }
+    Ok(())
+}

@@ -1,0 +1,75 @@
+//! The whole program, but for its devices.
+
+ghost use Rattle.std.specs.Prelude.{◌≡◌, ◌⊎◌, ◌↔◌, ◌+◌, ◌≤◌, ℕ, List, Some, length, map};
+ghost use Rattle.std.specs.Io.KnownBytes.{IsAtEnd, append_known};
+ghost use Rattle.std.specs.String.{string_bytes};
+ghost use Rattle.qs_io.specs.Devices.{AppendsPrefix, HasRisen, TakesBytes};
+ghost use Rattle.qsys.specs.declared.job.Job.{Job};
+ghost use Rattle.qsys.specs.Texts.{usage_line};
+ghost use Rattle.qsys.specs.Words.{IsJobOf, AreRefused};
+ghost use Rattle.qsys.specs.Answers.{EndsAsDefined, IsOfWholeText, WritesDefined};
+
+use crate::run::run_still;
+use crate::status::Status;
+use crate::words::read_words;
+use qs_io::{MAX_TEXT_BYTES, Sink, Source, write_all};
+use std::alloc::Global;
+
+/// What is written for words that give no job.
+const USAGE: &[u8] = b"usage: qsys run|check|graph|made [--limit N] [--workers N] [--size N]\n";
+
+/// Writes the usage line. `WriteFault` comes only where the sink failed; then a prefix of the line was written.
+fn write_usage<K: Sink>(sink: &mut K) -> Status
+    ensures written { result ≡ Status.Usage → K.written sink.new ≡ append_known (K.written sink.old) usage_line }
+    ensures answers { (result ≡ Status.Usage) ⊎ ((result ≡ Status.WriteFault) × AppendsPrefix (K.written sink.old) (K.written sink.new) usage_line) }
+    ensures fault { result ≡ Status.WriteFault → HasRisen (K.faults sink.old) (K.faults sink.new) }
+    ensures count { K.faults sink.old ≤ K.faults sink.new }
+{
+    match write_all(sink, USAGE) {
+        Ok(()) => Status::Usage,
+        Err(_) => Status::WriteFault,
+    }
+}
+
+/// Reads the words that follow the program's name, and does the job that they give: `run`, or `run --limit N` with N from 1
+/// to 100,000. It always returns, and never waits.
+///
+/// For other words the usage line is written and nothing is read; the answer is `Usage` then, or `WriteFault` where the
+/// sink failed. For the answers of a job see `run_still`.
+pub fn qsys<S: Source, K: Sink>(
+    alloc: Global,
+    words: &[String],
+    source: &mut S,
+    sink: &mut K,
+) -> Status
+    // Where the source tells its bytes, exactly what is defined for them is written; only too many bytes, a fault that is
+    // counted or want of memory stops it, at a prefix.
+    ensures headline { (job : Job) → IsJobOf (map string_bytes words.now) job
+        → (bytes : List ℕ) → S.left source.old ≡ Some bytes
+        → EndsAsDefined job.limit bytes (K.written sink.old) (K.written sink.new) result }
+    // With no fault and not too many bytes, only memory can be wanting.
+    ensures complete { (job : Job) → IsJobOf (map string_bytes words.now) job
+        → (bytes : List ℕ) → S.left source.old ≡ Some bytes → length bytes ≤ MAX_TEXT_BYTES
+        → ¬ HasRisen (S.faults source.old) (S.faults source.new) → ¬ HasRisen (K.faults sink.old) (K.faults sink.new)
+        → WritesDefined job.limit bytes (K.written sink.old) (K.written sink.new) result ⊎ (result ≡ Status.Memory) }
+
+    // Words that give no job are answered with the usage line, and nothing is read for them.
+    ensures usage { result ≡ Status.Usage → AreRefused (map string_bytes words.now) × (K.written sink.new ≡ append_known (K.written sink.old) usage_line) }
+    ensures refused_words { AreRefused (map string_bytes words.now) → (result ≡ Status.Usage) ⊎ ((result ≡ Status.WriteFault) × AppendsPrefix (K.written sink.old) (K.written sink.new) usage_line) }
+    ensures nothing_read { AreRefused (map string_bytes words.now) → source.new ≡ source.old }
+
+    ensures read_to_end { IsOfWholeText result → IsAtEnd (S.left source.new) }
+    ensures read_fault { result ≡ Status.ReadFault → HasRisen (S.faults source.old) (S.faults source.new) }
+    ensures too_long { (n : ℕ) × TakesBytes (S.left source.old) (S.left source.new) n × (n ≤ MAX_TEXT_BYTES + 1)
+        × (result ≡ Status.TooLong ↔ (n ≡ MAX_TEXT_BYTES + 1)) }
+    ensures nothing_written { (result ≡ Status.ReadFault) ⊎ (result ≡ Status.TooLong) → K.written sink.new ≡ K.written sink.old }
+    ensures write_fault { result ≡ Status.WriteFault → HasRisen (K.faults sink.old) (K.faults sink.new) }
+
+    ensures source_count { S.faults source.old ≤ S.faults source.new }
+    ensures sink_count { K.faults sink.old ≤ K.faults sink.new }
+{
+    match read_words(words) {
+        Some(job) => run_still(alloc, &job, source, sink),
+        None => write_usage(sink),
+    }
+}
