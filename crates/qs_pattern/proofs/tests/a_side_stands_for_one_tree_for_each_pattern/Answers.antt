@@ -1,4 +1,4 @@
-use Rattle.std.proofs.Common.{◌≡◌, true, cond, List, [], ◌∷◌, ◌++◌, Option, Some, None, sym, ap, ◌∙◌, subst, refl, Vec, Global}
+use Rattle.std.proofs.Common.{◌≡◌, true, cond, List, [], ◌∷◌, ◌++◌, Some, None, sym, ap, ◌∙◌, subst, refl, Vec, Global}
 use Rattle.qs_tree.specs.declared.cell.Label.{Label}
 use Rattle.qs_tree.specs.Trees.{Tree as LabelledTree}
 use Rattle.qs_pattern.specs.declared.variable.Var.{Var}
