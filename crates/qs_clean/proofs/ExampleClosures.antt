@@ -10,7 +10,7 @@ use Rattle.qs_canon.proofs.Existence.{the_round, the_round-is}
 use Rattle.qs_clean.proofs.Straight.{each_of}
 
 -- rules without variables are in class
-side-class : (ls : List Label) → AreInClass (side ls)
+pub side-class : (ls : List Label) → AreInClass (side ls)
 side-class [] = tt
 side-class (l ∷ ls) = (tt, tt, side-class ls)
 
@@ -32,10 +32,10 @@ overlapping_rules-class =
     (each_of LeftInClass (rule (B ∷ C ∷ []) (Y ∷ [])) [] (side-class (B ∷ C ∷ [])) (λ y i. absurd i))
 
 -- a stage and its next round
-abbrev next : List Rule → ℕ → Stage → Stage
+abbrev pub next : List Rule → ℕ → Stage → Stage
 next R n S = after R n S (the_round R S.graph (firings S))
 
-one_more : (R : List Rule) → AllInClass R → (G : QGraph) (n : ℕ) (S : Stage) → Rounds R G n S → Rounds R G (suc n) (next R (suc n) S)
+pub one_more : (R : List Rule) → AllInClass R → (G : QGraph) (n : ℕ) (S : Stage) → Rounds R G n S → Rounds R G (suc n) (next R (suc n) S)
 one_more R ok G n S s = (S, the_round R S.graph (firings S), s, the_round-is R ok S.graph (firings S), refl)
 
 pub one_rule_closes : Closes one_rule one_arc one_rule_closure

@@ -13,3 +13,4 @@ pub mod Renumbered
 pub mod Closures
 pub mod Whole
 pub mod NoRules
+pub mod TestClosures

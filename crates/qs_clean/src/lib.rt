@@ -1,9 +1,9 @@
 //! Cleaning: what a closure leaves.
 #![tactic(auto)]
 
-pub mod examples;
 mod arcs;
 mod cleaning;
+pub mod examples;
 pub mod laws;
 mod links;
 
