@@ -1,17 +1,16 @@
 -- What the rounds keep: each stage is a valid graph with the entry and the exit of the start, and the path of each done
 -- firing is a path of it.
-use Rattle.std.proofs.Common.{◌≡◌, ◌⊎◌, ◌↔◌, ℕ, zero, suc, ◌+◌, ◌<◌, List, [], ◌∷◌, ◌++◌, length, map, Some, slice_get, unwrap_or, refl, sym, ◌∙◌, ap, subst, inl, inr, ⊎_elim, arith}
+use Rattle.std.proofs.Common.{◌≡◌, ◌⊎◌, ◌↔◌, ℕ, zero, suc, ◌+◌, ◌<◌, List, [], ◌∷◌, ◌++◌, length, map, unwrap_or, refl, sym, ◌∙◌, ap, subst, inl, inr, ⊎_elim, arith}
 use Rattle.std.specs.Option.{option_map}
 use Rattle.std.proofs.lemmas.List.{nil_from_length}
 use Rattle.qs_canon.proofs.Rounds.{length-after}
 use Rattle.qs_tree.specs.Lists.{◌∈◌}
-use Rattle.qs_tree.specs.Trees.{Tree}
 use Rattle.qs_pattern.specs.Rules.{Rule, IsAccepted}
 use Rattle.qs_graph.specs.Graphs.{Arc, QGraph, Leads, IsPath, IsEntry, IsExit, IsValid}
 use Rattle.qs_graph.specs.Chains.{chain}
 use Rattle.qs_graph.proofs.Paths.{leads_more}
 use Rattle.qs_graph.proofs.Adding.{adding_valid, same_entry, same_exit}
-use Rattle.qs_firing.specs.Firings.{Firing, Fires}
+use Rattle.qs_firing.specs.Firings.{Firing}
 use Rattle.qs_firing.specs.Adding.{start_of, end_of, built}
 use Rattle.qs_firing.proofs.Building.{built_some}
 use Rattle.qs_canon.specs.Rounds.{Rounds, Stage, Done, firings, after, after_one, start}

@@ -1,16 +1,15 @@
 -- What is made of arcs and of marks, member by member.
-use Rattle.std.proofs.Common.{◌≡◌, ◌≢◌, ◌⊎◌, ◌↔◌, ℕ, zero, suc, ◌+◌, ◌<◌, ◌≤◌, Bool, false, true, ◌&&◌, not, List, [], ◌∷◌, ◌++◌, length, map, get_or, slice_get, Option, Some, None, refl, sym, ◌∙◌, ap, subst, inl, inr, ⊎_elim, arith, append_assoc}
+use Rattle.std.proofs.Common.{◌≡◌, ◌⊎◌, ℕ, zero, suc, ◌+◌, ◌<◌, Bool, false, true, ◌&&◌, not, List, [], ◌∷◌, ◌++◌, length, map, get_or, slice_get, Option, Some, None, refl, sym, ◌∙◌, ap, subst, inl, inr, ⊎_elim, arith, append_assoc}
 use Rattle.std.specs.Prelude.{if◌then◌else◌}
-use Rattle.std.specs.List.{filter_map, cons_option}
+use Rattle.std.specs.List.{cons_option}
 use Rattle.std.proofs.lemmas.List.{length_push}
 use Rattle.std.proofs.lemmas.Option.{same_Some}
 use Rattle.qs_tree.specs.Lists.{◌∈◌}
 use Rattle.qs_graph.specs.Graphs.{Arc, arcs_at}
-use Rattle.qs_graph.proofs.Paths.{append_right}
 use Rattle.qs_clean.specs.declared.links.Link.{Link}
-use Rattle.qs_clean.specs.Links.{IsMarked, Reaches, here, onward, turned, IsLinked}
-use Rattle.qs_clean.specs.Steps.{each_pair, free_link, keeps, keeps_mark, marked, numbering, numbered_arc, if_kept}
-use Rattle.qs_clean.proofs.Exploring.{marked_within, reaches_more}
+use Rattle.qs_clean.specs.Links.{IsMarked, Reaches, here, onward, turned}
+use Rattle.qs_clean.specs.Steps.{each_pair, free_link, keeps_mark, marked, numbered_arc, if_kept}
+use Rattle.qs_clean.proofs.Exploring.{reaches_more}
 use Rattle.qs_clean.proofs.Places.{places}
 
 pub in_map : {X Y : Type 0} (f : X → Y) (xs : List X) (y : Y) → y ∈ map f xs → (x : X) × (x ∈ xs) × (y ≡ f x)

@@ -1,19 +1,18 @@
 -- What a closure over a valid graph gives its cleaning.
-use Rattle.std.proofs.Common.{◌≡◌, ◌⊎◌, ◌↔◌, ℕ, zero, suc, ◌+◌, ◌<◌, ◌≤◌, ◌^◌, Bool, false, true, List, [], ◌∷◌, length, map, get_or, slice_get, Some, refl, sym, ◌∙◌, ap, subst, inl, inr, ⊎_elim, arith}
+use Rattle.std.proofs.Common.{◌≡◌, ◌↔◌, ℕ, ◌<◌, ◌≤◌, Bool, false, true, List, [], ◌∷◌, length, map, get_or, refl, sym, ◌∙◌, ap, subst, inl, inr, ⊎_elim, arith}
 use Rattle.std.proofs.lemmas.Bool.{cases_lt}
 use Rattle.std.proofs.lemmas.Option.{slice_get_within}
 use Rattle.qs_tree.specs.Lists.{◌∈◌}
-use Rattle.qs_graph.specs.Graphs.{Arc, QGraph, Leads, IsPath, IsNode, IsEntry, IsExit, IsValid}
+use Rattle.qs_graph.specs.Graphs.{Arc, QGraph, Leads, IsNode, IsEntry, IsExit, IsValid}
 use Rattle.qs_graph.proofs.Lines.{member-slice_get}
 use Rattle.qs_firing.specs.Firings.{Firing}
 use Rattle.qs_canon.specs.Rounds.{Stage, Done, firings}
 use Rattle.qs_canon.specs.Closures.{ClosureOf}
 use Rattle.qs_canon.proofs.Keeping.{Keeps, keeps_rounds, nothing_done}
 use Rattle.qs_clean.specs.declared.links.Link.{Link}
-use Rattle.qs_clean.specs.Links.{IsMarked, Reaches, turned}
+use Rattle.qs_clean.specs.Links.{Reaches, turned}
 use Rattle.qs_clean.specs.Steps.{IsUsed, each_pair, free_link, keeps_mark, both, marked, AreMarks}
 use Rattle.qs_clean.specs.Cleaning.{IsClosureOfValid, IsDenoted}
-use Rattle.qs_clean.proofs.Exploring.{reaches_more}
 use Rattle.qs_clean.proofs.Places.{marked_le, marked_lt, in_both_from, length-both}
 use Rattle.qs_clean.proofs.ArcLists.{in_map, to_map, FreeArc, free_from_link, length-keeps, not_kept, reaches_last}
 

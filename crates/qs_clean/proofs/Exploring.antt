@@ -1,10 +1,10 @@
 -- Marking the nodes to which links lead: what one step keeps, and what is marked at the end.
-use Rattle.std.proofs.Common.{◌≡◌, ◌⊎◌, ◌↔◌, ℕ, zero, suc, ◌+◌, ◌<◌, ◌≤◌, Bool, true, false, List, [], ◌∷◌, ◌++◌, length, get_or, set, replicate, refl, sym, ◌∙◌, ap, subst, inl, inr, ⊎_elim, arith, length-append}
+use Rattle.std.proofs.Common.{◌≡◌, ◌⊎◌, ◌↔◌, ℕ, zero, suc, ◌+◌, ◌<◌, Bool, true, false, List, [], ◌∷◌, ◌++◌, length, get_or, set, replicate, refl, sym, ap, subst, inl, inr, ⊎_elim, arith, length-append}
 use Rattle.std.proofs.lemmas.List.{length-replicate}
 use Rattle.qs_tree.specs.Lists.{◌∈◌}
 use Rattle.qs_graph.proofs.Paths.{append_cases, append_left, append_right}
 use Rattle.qs_clean.specs.declared.links.Link.{Link}
-use Rattle.qs_clean.specs.Links.{IsMarked, Reaches, here, onward, turned, IsLinked, AreGroups, unmarked, AreMarked}
+use Rattle.qs_clean.specs.Links.{IsMarked, Reaches, here, onward, AreGroups, unmarked, AreMarked}
 
 -- what is marked is within the list
 pub marked_within : (marks : List Bool) (n : ℕ) → IsMarked marks n → n < length marks

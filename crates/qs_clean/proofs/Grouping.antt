@@ -1,5 +1,5 @@
 -- Grouping links by the nodes from which they lead.
-use Rattle.std.proofs.Common.{◌≡◌, ◌⊎◌, ℕ, zero, suc, ◌+◌, ◌<◌, List, [], ◌∷◌, ◌++◌, length, map, get_or, set, refl, sym, ◌∙◌, ap, subst, inl, inr, ⊎_elim, arith}
+use Rattle.std.proofs.Common.{◌≡◌, ◌⊎◌, ℕ, zero, suc, ◌<◌, List, [], ◌∷◌, ◌++◌, length, get_or, set, refl, sym, ap, subst, inl, inr, ⊎_elim, arith}
 use Rattle.qs_tree.specs.Lists.{◌∈◌}
 use Rattle.qs_graph.proofs.Paths.{append_cases, append_left, append_right}
 use Rattle.qs_clean.specs.declared.links.Link.{Link}

@@ -1,11 +1,11 @@
 -- What the marks keep is what cleaning keeps.
-use Rattle.std.proofs.Common.{◌≡◌, ◌⊎◌, ◌↔◌, ℕ, zero, suc, ◌+◌, ◌<◌, ◌≤◌, Bool, false, true, List, [], ◌∷◌, ◌++◌, length, map, get_or, slice_get, Some, refl, sym, ◌∙◌, ap, subst, inl, inr, ⊎_elim, arith, length-append}
-use Rattle.qs_tree.specs.Lists.{◌∈◌, Ascends}
-use Rattle.qs_graph.specs.Graphs.{Arc, QGraph, Leads, IsPath, IsNode, IsEntry, IsExit, IsValid, arcs_at}
+use Rattle.std.proofs.Common.{◌≡◌, ◌⊎◌, ◌↔◌, ℕ, Bool, false, true, List, [], ◌∷◌, ◌++◌, get_or, slice_get, Some, refl, sym, ◌∙◌, ap, subst, inl, inr, ⊎_elim, arith, length-append}
+use Rattle.qs_tree.specs.Lists.{◌∈◌}
+use Rattle.qs_graph.specs.Graphs.{Arc, Leads, IsEntry, IsExit, IsValid, arcs_at}
 use Rattle.qs_graph.proofs.Paths.{append_cases, append_right, leads-append}
 use Rattle.qs_canon.specs.Rounds.{Stage}
 use Rattle.qs_clean.specs.declared.links.Link.{Link}
-use Rattle.qs_clean.specs.Links.{IsMarked, Reaches, here, onward, turned}
+use Rattle.qs_clean.specs.Links.{IsMarked, Reaches, here, onward}
 use Rattle.qs_clean.specs.Steps.{each_pair, free_link, keeps_mark, both, AreMarks}
 use Rattle.qs_clean.specs.Cleaning.{IsDenoted, Stays, IsEndOf}
 use Rattle.qs_clean.proofs.Exploring.{reaches_more}

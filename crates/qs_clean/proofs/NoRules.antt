@@ -1,5 +1,5 @@
 -- The closure of no rules is the graph with which they start.
-use Rattle.std.proofs.Common.{◌≡◌, ℕ, ◌<◌, List, [], length, Some, None, slice_get, refl, sym, ap, ◌∙◌, arith}
+use Rattle.std.proofs.Common.{◌≡◌, ◌<◌, List, [], length, ap, arith}
 use Rattle.qs_graph.specs.Graphs.{Arc, QGraph, IsEntry, IsExit, IsValid}
 use Rattle.qs_firing.specs.Firings.{Firing, Fires}
 use Rattle.qs_canon.specs.Rounds.{Stage, start}

@@ -1,17 +1,16 @@
 -- The graph that is left is valid, and it is what cleaning leaves.
-use Rattle.std.proofs.Common.{◌≡◌, ◌⊎◌, ◌↔◌, ℕ, zero, suc, ◌+◌, ◌<◌, ◌≤◌, Bool, false, true, List, [], ◌∷◌, ◌++◌, length, map, get_or, slice_get, Some, refl, sym, ◌∙◌, ap, subst, inl, inr, ⊎_elim, arith}
-use Rattle.std.proofs.lemmas.List.{length-map, nil_from_length}
-use Rattle.qs_tree.specs.Lists.{◌∈◌, Ascends}
-use Rattle.qs_graph.specs.Graphs.{Arc, QGraph, Leads, IsPath, IsNode, IsEntry, IsExit, IsValid, arcs_at}
+use Rattle.std.proofs.Common.{◌≡◌, ℕ, ◌<◌, Bool, List, [], ◌∷◌, length, map, get_or, slice_get, Some, refl, sym, ◌∙◌, ap, subst, inl, ⊎_elim, arith}
+use Rattle.std.proofs.lemmas.List.{nil_from_length}
+use Rattle.qs_tree.specs.Lists.{◌∈◌}
+use Rattle.qs_graph.specs.Graphs.{Arc, QGraph, IsNode, IsEntry, IsExit, IsValid, arcs_at}
 use Rattle.qs_graph.specs.Kept.{IsKept}
 use Rattle.qs_graph.proofs.Lines.{member-slice_get}
 use Rattle.qs_graph.proofs.Paths.{path_above, Joined, joined_arc, joined_on, not_joined}
 use Rattle.qs_canon.specs.Rounds.{Stage}
-use Rattle.qs_clean.specs.Links.{IsMarked}
-use Rattle.qs_clean.specs.Steps.{each_pair, keeps_mark, both, marked, numbering, numbered_arc, if_kept, AreMarks}
+use Rattle.qs_clean.specs.Steps.{each_pair, marked, numbering, numbered_arc, if_kept, AreMarks}
 use Rattle.qs_clean.specs.Cleaning.{Cleans, IsEndOf, number_in, renumbered}
-use Rattle.qs_clean.proofs.Places.{places, places_ascend, in_places, length-places, numbering-number_in, number_range, number_one, number_all}
-use Rattle.qs_clean.proofs.ArcLists.{in_map, to_map, map_same, in_arcs_at, to_arcs_at, chosen, arcs_at-places, each_if_kept, length-if_kept, length-keeps}
+use Rattle.qs_clean.proofs.Places.{places_ascend, in_places, length-places, numbering-number_in, number_range, number_one, number_all}
+use Rattle.qs_clean.proofs.ArcLists.{in_map, to_map, map_same, in_arcs_at, to_arcs_at, arcs_at-places, each_if_kept, length-if_kept, length-keeps}
 use Rattle.qs_clean.proofs.Kept.{kept, left, kept_marks, left_marks, kept_arc, kept_are, kept_ends, kept_into, kept_out_of, entry_left, exit_left, left_are}
 
 member_some : {X : Type 0} (xs : List X) (x : X) → x ∈ xs → 0 < length xs

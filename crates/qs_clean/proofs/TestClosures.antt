@@ -1,12 +1,12 @@
 -- The closures that the tests clean are closures over valid graphs.
-use Rattle.std.proofs.Common.{◌≡◌, ℕ, ◌+◌, ◌<◌, ◌≤◌, List, [], ◌∷◌, length, refl, inl, inr, subst, sym, ap, arith}
+use Rattle.std.proofs.Common.{◌≡◌, ◌<◌, ◌≤◌, List, [], ◌∷◌, length, refl, subst, sym, arith}
 use Rattle.qs_tree.specs.Lists.{◌∈◌}
 use Rattle.qs_tree.specs.declared.cell.Label.{Label}
 use Rattle.qs_tree.specs.Trees.{Tree}
 use Rattle.qs_pattern.specs.Patterns.{AreInClass, NoForestAtTop}
 use Rattle.qs_pattern.specs.Rules.{Rule, IsAccepted, AllInClass}
 use Rattle.qs_graph.specs.Chains.{line_graph}
-use Rattle.qs_graph.proofs.Lines.{line_valid, line_kept}
+use Rattle.qs_graph.proofs.Lines.{line_kept}
 use Rattle.qs_canon.specs.Rounds.{Stage, Closes, start, firings}
 use Rattle.qs_canon.specs.Closures.{ClosureOf}
 use Rattle.qs_canon.proofs.Existence.{the_round-is}

@@ -1,5 +1,5 @@
 -- The parts of cleaning put together, over the lists that the program has.
-use Rattle.std.proofs.Common.{◌≡◌, ◌↔◌, ℕ, ◌+◌, ◌<◌, ◌≤◌, ◌^◌, ◌==◌, Bool, false, true, List, [], ◌∷◌, length, map, get_or, refl, sym, ◌∙◌, ap, subst, arith}
+use Rattle.std.proofs.Common.{◌≡◌, ◌↔◌, ℕ, ◌+◌, ◌<◌, ◌≤◌, ◌==◌, Bool, false, true, List, [], length, map, get_or, sym, ◌∙◌, ap, subst, arith}
 use Rattle.std.proofs.lemmas.Bool.Decides.{nat_tests}
 use Rattle.std.proofs.lemmas.List.{get_or_read}
 use Rattle.qs_tree.specs.Lists.{◌∈◌}
@@ -10,7 +10,7 @@ use Rattle.qs_canon.specs.Closures.{ClosureOf}
 use Rattle.qs_clean.specs.declared.links.Link.{Link}
 use Rattle.qs_clean.specs.Links.{IsMarked, Reaches, turned}
 use Rattle.qs_clean.specs.Steps.{IsUsed, each_pair, free_link, keeps_mark, both, marked, numbering, if_kept, AreMarks}
-use Rattle.qs_clean.specs.Cleaning.{IsClosureOfValid, IsDenoted, Cleans}
+use Rattle.qs_clean.specs.Cleaning.{IsClosureOfValid, Cleans}
 use Rattle.qs_clean.proofs.Places.{length-both, length-numbering}
 use Rattle.qs_clean.proofs.ArcLists.{length-keeps, length-if_kept}
 use Rattle.qs_clean.proofs.Renumbered.{none_left, graph_left, graph_kept}

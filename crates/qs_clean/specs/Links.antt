@@ -1,5 +1,5 @@
 -- Links between nodes, and the nodes to which they lead.
-use Rattle.std.specs.Prelude.{ℕ, ◌≡◌, ◌+◌, ◌⊎◌, Bool, true, false, List, [], ◌∷◌, ◌++◌, length, slice_index_or}
+use Rattle.std.specs.Prelude.{ℕ, ◌≡◌, ◌+◌, ◌⊎◌, Bool, true, false, List, [], ◌∷◌, length, slice_index_or}
 use Rattle.qs_tree.specs.Lists.{◌∈◌}
 use Rattle.qs_clean.specs.declared.links.Link.{Link}
 

@@ -1,22 +1,21 @@
 -- A firing of an accepted rule builds at least one tree.
-use Rattle.std.proofs.Common.{◌≡◌, ℕ, ◌<◌, ◌≤◌, Bool, true, false, not, List, [], ◌∷◌, ◌++◌, length, map, Some, Option, None, slice_get, unwrap_or, refl, sym, ◌∙◌, ap, subst, inl, inr, arith, length-append}
+use Rattle.std.proofs.Common.{◌≡◌, ◌<◌, ◌≤◌, Bool, true, false, not, List, [], ◌∷◌, length, Some, unwrap_or, refl, sym, ◌∙◌, ap, subst, inl, inr, arith, length-append}
 use Rattle.std.specs.Prelude.{if◌then◌else◌}
 use Rattle.std.specs.List.{filter}
 use Rattle.std.specs.Option.{option_map}
 use Rattle.std.proofs.lemmas.Bool.Decides.{nat_tests}
 use Rattle.qs_tree.specs.Lists.{◌∈◌}
-use Rattle.qs_tree.specs.Trees.{Tree, node}
 use Rattle.qs_pattern.specs.declared.variable.Var.{Var}
 use Rattle.qs_pattern.specs.declared.subst.Value.{Value}
 use Rattle.qs_pattern.specs.declared.subst.Value.TheVariants as value
-use Rattle.qs_pattern.specs.Variables.{IsLabelVar, IsTreeVar, IsForestVar, same_var, firsts}
+use Rattle.qs_pattern.specs.Variables.{IsTreeVar, same_var, firsts}
 use Rattle.qs_pattern.specs.Patterns.{Patterns, no_pattern, node_first, tree_var_first, forest_var_first, count, variables_in, AreInClass, NoForestAtTop}
 use Rattle.qs_pattern.specs.Substitutions.{Substitution, variables_of, value_of, IsOfClass}
-use Rattle.qs_pattern.specs.Instances.{inst, label_of, tree_in}
+use Rattle.qs_pattern.specs.Instances.{inst, tree_in}
 use Rattle.qs_pattern.specs.Rules.{Rule, IsAccepted, variables_if_given}
-use Rattle.qs_graph.specs.Graphs.{Arc, trees_on}
+use Rattle.qs_graph.specs.Graphs.{Arc}
 use Rattle.qs_graph.proofs.Lines.{member-slice_get}
-use Rattle.qs_graph.proofs.Paths.{append_left, append_right}
+use Rattle.qs_graph.proofs.Paths.{append_left}
 use Rattle.qs_firing.specs.Firings.{Firing, Fires}
 use Rattle.qs_firing.specs.Adding.{built}
 

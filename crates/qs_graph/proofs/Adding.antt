@@ -1,9 +1,9 @@
 -- Adding a chain along a path keeps a graph valid, with the same entry and exit.
-use Rattle.std.proofs.Common.{◌≡◌, ◌⊎◌, ◌↔◌, ℕ, ◌+◌, ◌-◌, ◌<◌, ◌≤◌, List, [], ◌∷◌, ◌++◌, length, refl, sym, ◌∙◌, ap, subst, inl, inr, ⊎_elim, arith, length-append}
+use Rattle.std.proofs.Common.{◌≡◌, ◌⊎◌, ◌↔◌, ℕ, ◌+◌, ◌<◌, ◌≤◌, List, [], ◌∷◌, length, sym, ◌∙◌, ap, subst, inl, inr, ⊎_elim, arith, length-append}
 use Rattle.std.proofs.lemmas.Bool.{cases_lt}
 use Rattle.qs_tree.specs.Lists.{◌∈◌}
 use Rattle.qs_tree.specs.Trees.{Tree}
-use Rattle.qs_graph.specs.Graphs.{Arc, QGraph, IsPath, IsNode, IsEntry, IsExit, ExactlyOne, IsValid}
+use Rattle.qs_graph.specs.Graphs.{Arc, QGraph, IsPath, IsNode, IsEntry, IsExit, IsValid}
 use Rattle.qs_graph.specs.Chains.{chain, with_chain}
 use Rattle.qs_graph.proofs.Lines.{IsInner, targets, sources, into, out_of}
 use Rattle.qs_graph.proofs.Paths.{append_cases, append_left, append_right, first_arc, last_arc, path_above, Joined, joined_arc, joined_on, JoinedOrSame, joined_then, then_joined, not_joined}

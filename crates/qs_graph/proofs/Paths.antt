@@ -1,7 +1,7 @@
 -- Paths: their parts and their ends, and relations that rise along arcs.
-use Rattle.std.proofs.Common.{◌≡◌, ◌⊎◌, ℕ, zero, suc, Some, slice_get, ◌+◌, ◌<◌, ◌≤◌, List, [], ◌∷◌, ◌++◌, length, refl, sym, ap, subst, inl, inr, ⊎_elim, arith, length-append}
+use Rattle.std.proofs.Common.{◌≡◌, ◌⊎◌, ℕ, zero, suc, Some, slice_get, List, [], ◌∷◌, ◌++◌, refl, sym, ap, subst, inl, inr, ⊎_elim, arith, length-append}
 use Rattle.qs_tree.specs.Lists.{◌∈◌}
-use Rattle.qs_graph.specs.Graphs.{Arc, QGraph, Leads, IsPath, IsNode, IsValid}
+use Rattle.qs_graph.specs.Graphs.{Arc, QGraph, Leads, IsPath, IsValid}
 use Rattle.qs_graph.proofs.Lines.{member-slice_get}
 
 -- a member stands at a place of the list

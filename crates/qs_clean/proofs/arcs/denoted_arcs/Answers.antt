@@ -1,4 +1,4 @@
-use Rattle.std.proofs.Common.{◌≡◌, ℕ, ◌<◌, ◌+◌, ◌↔◌, ◌⊎◌, Bool, List, sym, ◌∙◌, ap, subst, get_or, replicate, false, length, arith}
+use Rattle.std.proofs.Common.{◌≡◌, ℕ, ◌↔◌, ◌⊎◌, ◌∙◌, ap, subst, replicate, false, length, arith}
 use Rattle.std.proofs.lemmas.List.{length-replicate}
 use Rattle.qs_tree.specs.Lists.{◌∈◌}
 use Rattle.qs_firing.specs.Firings.{Firing}

@@ -1,4 +1,4 @@
-use Rattle.std.proofs.Common.{◌≡◌, ℕ, ◌<◌, ◌↔◌, ◌⊎◌, get_or, length, set, true, sym, ◌∙◌, ap, subst, refl, arith, List}
+use Rattle.std.proofs.Common.{◌≡◌, ℕ, ◌<◌, ◌↔◌, ◌⊎◌, get_or, length, set, true, ◌∙◌, ap, subst, refl, arith}
 use Rattle.qs_tree.specs.Lists.{◌∈◌}
 use Rattle.qs_firing.specs.Firings.{Firing}
 use Rattle.qs_clean.specs.Links.{IsMarked}

@@ -1,6 +1,5 @@
-use Rattle.std.proofs.Common.{◌≡◌, ℕ, ◌+◌, ◌<◌, ◌≤◌, [], List, length, map, get_or, refl, sym, ◌∙◌, ap, subst, arith}
+use Rattle.std.proofs.Common.{◌≡◌, ◌<◌, [], length, refl, sym, ◌∙◌, ap, subst, arith}
 use Rattle.qs_graph.specs.Graphs.{QGraph}
-use Rattle.qs_canon.specs.Rounds.{Stage}
 use Rattle.qs_canon.specs.Closures.{ClosureOf}
 use Rattle.qs_canon.specs.contracts.closure.Closure as closure
 use Rattle.qs_clean.specs.Steps.{each_pair, keeps_mark, both, numbering, if_kept, marked, AreMarks}

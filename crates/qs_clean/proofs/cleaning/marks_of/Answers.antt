@@ -1,9 +1,8 @@
-use Rattle.std.proofs.Common.{◌≡◌, ℕ, ◌+◌, ◌<◌, ◌≤◌, List, length, map, sym, ◌∙◌, ap, subst, arith}
+use Rattle.std.proofs.Common.{◌≡◌, List, length, map, sym, ◌∙◌, ap, subst, arith}
 use Rattle.qs_tree.specs.Lists.{◌∈◌}
 use Rattle.qs_canon.specs.Rounds.{Done}
 use Rattle.qs_canon.specs.Closures.{ClosureOf}
 use Rattle.qs_canon.specs.contracts.closure.Closure as closure
-use Rattle.qs_clean.specs.declared.links.Link.{Link}
 use Rattle.qs_clean.specs.Links.{turned}
 use Rattle.qs_clean.specs.Steps.{each_pair, free_link, AreMarks}
 use Rattle.qs_clean.specs.Cleaning.{IsClosureOfValid}

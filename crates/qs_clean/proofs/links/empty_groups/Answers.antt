@@ -1,4 +1,4 @@
-use Rattle.std.proofs.Common.{◌≡◌, ℕ, ◌+◌, ◌<◌, ◌++◌, ◌∷◌, [], map, ap, sym, subst, ◌∙◌, length, arith, length-append}
+use Rattle.std.proofs.Common.{◌+◌, ◌++◌, ◌∷◌, [], map, ap, sym, subst, ◌∙◌, length}
 use Rattle.std.proofs.lemmas.List.{map_push, length_push}
 use Rattle.qs_clean.specs.Links.{AreGroups}
 use Rattle.qs_clean.proofs.LinkSteps.{items_of}

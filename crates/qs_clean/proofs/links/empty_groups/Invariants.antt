@@ -1,4 +1,4 @@
-use Rattle.std.proofs.Common.{◌≡◌, ◌+◌, [], length, map}
+use Rattle.std.proofs.Common.{◌≡◌, [], length, map}
 use Rattle.qs_clean.specs.Links.{AreGroups}
 use Rattle.qs_clean.proofs.links.empty_groups.Given as goal
 

@@ -1,4 +1,4 @@
-use Rattle.std.proofs.Common.{◌≡◌, ℕ, ◌+◌, ◌<◌, get_or, length, take, ◌∙◌, refl, arith, length-set}
+use Rattle.std.proofs.Common.{◌∙◌, arith, length-set}
 use Rattle.qs_clean.specs.declared.links.Link.{Link}
 use Rattle.qs_clean.proofs.LinkSteps.{member-get_or, group_step}
 use Rattle.qs_clean.proofs.links.grouped.Goals as goal

@@ -1,6 +1,4 @@
-use Rattle.std.proofs.Common.{◌≡◌, ℕ, ◌+◌, ◌<◌, Bool, true, false, List, [], ◌∷◌, ◌++◌, get_or, set, length, take, refl, sym, arith}
-use Rattle.std.proofs.lemmas.Grind.{common_steps}
-use Rattle.qs_tree.specs.Lists.{◌∈◌}
+use Rattle.std.proofs.Common.{◌≡◌, ◌<◌, true, false, [], ◌∷◌, ◌++◌, get_or, length, refl, arith}
 use Rattle.qs_clean.proofs.LinkSteps.{member-get_or, mark_new, mark_old}
 use Rattle.qs_clean.proofs.links.mark_all.Goals as goal
 use Rattle.qs_clean.proofs.links.mark_all.Goals.{then-not-marks-target+in_ok-push, else-not-marks-target}

@@ -1,4 +1,4 @@
-use Rattle.std.proofs.Common.{◌≡◌, ℕ, ◌+◌, ◌<◌, ◌++◌, ◌∷◌, [], map, get_or, subst, ap, sym, ◌∙◌, length, arith, Bool, List}
+use Rattle.std.proofs.Common.{◌≡◌, ◌+◌, [], map, get_or, subst, ap, ◌∙◌, length, arith}
 use Rattle.std.proofs.lemmas.List.{nil_from_length}
 use Rattle.qs_tree.specs.Lists.{◌∈◌}
 use Rattle.qs_clean.proofs.Exploring.{IsExploring, explored}
