@@ -1,0 +1,5 @@
+-SYSTEME- ENDLESS.
+A == A.
+-GRAPHE-
+-1- A -2-.
+-FIN-

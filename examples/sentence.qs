@@ -1,0 +1,8 @@
+-SYSTEME- PHRASES.
+LE + CHAT == GN.
+LA + SOURIS == GN.
+VOIT + GN == GV.
+GN + GV == P.
+-GRAPHE-
+-1- LE + CHAT + VOIT + LA + SOURIS -2-.
+-FIN-
