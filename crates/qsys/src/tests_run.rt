@@ -73,6 +73,48 @@ fn a_grammar_gives_its_block_and_a_limit_that_is_met_its_line(rt: HostRuntime) -
             b"# S 1\n-GRAPHE-\n-1- VIENT -3-.\n-4- SUD -2-.\n-3- DE -5-.\n-5- LE -4-.\n-FIN-\n".as_slice(),
         ),
         (
+            "overlapping rules use up every arc, and nothing is left",
+            "run",
+            b"-SYSTEME- S.\nA + B == X.\nB + C == Y.\n-GRAPHE-\n-1- A + B + C -2-.\n-FIN-\n".as_slice(),
+            Status::Done,
+            b"# S 2\n-VIDE-.\n".as_slice(),
+        ),
+        (
+            "an arc that leads nowhere goes, and one that nothing reaches",
+            "run",
+            b"-SYSTEME- S.\nA + B == X.\nB + C == Y.\nA + B + C == Z.\n-GRAPHE-\n-1- A + B + C -2-.\n-FIN-\n".as_slice(),
+            Status::Done,
+            b"# S 3\n-GRAPHE-\n-1- Z -2-.\n-FIN-\n".as_slice(),
+        ),
+        (
+            "firings of a round go by rule, and then by path",
+            "run",
+            b"-SYSTEME- S.\nB == P + Q.\nA == R + S.\n-GRAPHE-\n-1- A + B -2-.\n-FIN-\n".as_slice(),
+            Status::Done,
+            b"# S 2\n-GRAPHE-\n-3- P -4-.\n-4- Q -2-.\n-1- R -5-.\n-5- S -3-.\n-FIN-\n".as_slice(),
+        ),
+        (
+            "a limit that is met in the middle of a round",
+            "run --limit 2",
+            b"-SYSTEME- S.\nA == B.\n-GRAPHE-\n-1- A + A + A -2-.\n-FIN-\n".as_slice(),
+            Status::Limit,
+            b"# S\n-LIMITE- 2.\n".as_slice(),
+        ),
+        (
+            "a limit that the rounds just keep",
+            "run --limit 3",
+            b"-SYSTEME- S.\nA == B.\n-GRAPHE-\n-1- A + A + A -2-.\n-FIN-\n".as_slice(),
+            Status::Done,
+            b"# S 3\n-GRAPHE-\n-1- B -3-.\n-3- B -4-.\n-4- B -2-.\n-FIN-\n".as_slice(),
+        ),
+        (
+            "what a round adds is used in the next one",
+            "run",
+            b"-SYSTEME- S.\nA == B.\nB == C.\n-GRAPHE-\n-1- A -2-.\n-FIN-\n".as_slice(),
+            Status::Done,
+            b"# S 2\n-GRAPHE-\n-1- C -2-.\n-FIN-\n".as_slice(),
+        ),
+        (
             "a text that isn't simple is refused",
             "run",
             b"-SYSTEME- S.\nA(B) == C.\n-GRAPHE-\n-1- A -2-.\n-FIN-\n".as_slice(),
@@ -84,6 +126,23 @@ fn a_grammar_gives_its_block_and_a_limit_that_is_met_its_line(rt: HostRuntime) -
         assert_eq!(rt; found.0, status, "{case}");
         assert_eq!(rt; found.1.as_slice(), written, "{case}");
     }
+    Ok(())
+}
+
+#[test]
+fn each_arc_of_a_chain_of_65536_is_rewritten(rt: HostRuntime) -> Result<(), Fail> {
+    let alloc = rt.alloc();
+    let words = words_of(alloc, "run --limit 100000")?;
+    let mut text = b"-SYSTEME- S.\nA == B.\n-GRAPHE-\n-1- A".to_vec(alloc)?;
+    for _ in 1..65_536 {
+        text.extend_from_slice(b" + A")?;
+    }
+    text.extend_from_slice(b" -2-.\n-FIN-\n")?;
+    let mut source = SureSource::new(alloc, text, 65_536);
+    let mut sink = MemSink::new(alloc, 4_000_000, 4_000_000, vec![in alloc]?)?;
+    assert_eq!(rt; qsys(alloc, &words, &mut source, &mut sink), Status::Done);
+    assert!(rt; sink.written().starts_with(b"# S 65536\n-GRAPHE-\n-1- B -3-.\n-3- B -4-.\n"));
+    assert!(rt; sink.written().ends_with(b"-65537- B -2-.\n-FIN-\n"));
     Ok(())
 }
 
