@@ -73,6 +73,24 @@ fn a_grammar_gives_its_block_and_a_limit_that_is_met_its_line(rt: HostRuntime) -
             b"# S 1\n-GRAPHE-\n-1- VIENT -3-.\n-4- SUD -2-.\n-3- DE -5-.\n-5- LE -4-.\n-FIN-\n".as_slice(),
         ),
         (
+            "a text that isn't simple is refused",
+            "run",
+            b"-SYSTEME- S.\nA(B) == C.\n-GRAPHE-\n-1- A -2-.\n-FIN-\n".as_slice(),
+            Status::Refused,
+            b"-REFUS- 1 1 NotYetRead.\n".as_slice(),
+        ),
+    ] {
+        let found = outcome(rt.alloc(), line, text)?;
+        assert_eq!(rt; found.0, status, "{case}");
+        assert_eq!(rt; found.1.as_slice(), written, "{case}");
+    }
+    Ok(())
+}
+
+#[test]
+fn rounds_and_cleaning_leave_what_they_are_defined_to(rt: HostRuntime) -> Result<(), Fail> {
+    for (case, line, text, status, written) in [
+        (
             "overlapping rules use up every arc, and nothing is left",
             "run",
             b"-SYSTEME- S.\nA + B == X.\nB + C == Y.\n-GRAPHE-\n-1- A + B + C -2-.\n-FIN-\n".as_slice(),
@@ -114,13 +132,6 @@ fn a_grammar_gives_its_block_and_a_limit_that_is_met_its_line(rt: HostRuntime) -
             Status::Done,
             b"# S 2\n-GRAPHE-\n-1- C -2-.\n-FIN-\n".as_slice(),
         ),
-        (
-            "a text that isn't simple is refused",
-            "run",
-            b"-SYSTEME- S.\nA(B) == C.\n-GRAPHE-\n-1- A -2-.\n-FIN-\n".as_slice(),
-            Status::Refused,
-            b"-REFUS- 1 1 NotYetRead.\n".as_slice(),
-        ),
     ] {
         let found = outcome(rt.alloc(), line, text)?;
         assert_eq!(rt; found.0, status, "{case}");
@@ -141,7 +152,10 @@ fn each_arc_of_a_chain_of_65536_is_rewritten(rt: HostRuntime) -> Result<(), Fail
     let mut source = SureSource::new(alloc, text, 65_536);
     let mut sink = MemSink::new(alloc, 4_000_000, 4_000_000, vec![in alloc]?)?;
     assert_eq!(rt; qsys(alloc, &words, &mut source, &mut sink), Status::Done);
-    assert!(rt; sink.written().starts_with(b"# S 65536\n-GRAPHE-\n-1- B -3-.\n-3- B -4-.\n"));
+    assert!(rt;
+        sink.written()
+            .starts_with(b"# S 65536\n-GRAPHE-\n-1- B -3-.\n-3- B -4-.\n")
+    );
     assert!(rt; sink.written().ends_with(b"-65537- B -2-.\n-FIN-\n"));
     Ok(())
 }
