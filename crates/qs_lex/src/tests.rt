@@ -32,9 +32,13 @@ fn a_text_is_refused_at_its_first_fault(rt: HostRuntime) -> Result<(), Fail> {
         ("-0-", 1, 1, Cause::BadWord),
         ("-1000000000-", 1, 1, Cause::BadWord),
         ("-Fin-", 1, 1, Cause::BadWord),
+        ("-SYSTEMES-", 1, 1, Cause::BadWord),
+        ("-a-", 1, 1, Cause::BadWord),
         ("A*100", 1, 1, Cause::BadVariable),
         ("A*07", 1, 1, Cause::BadVariable),
+        ("A*09", 1, 1, Cause::BadVariable),
         ("AB*", 1, 1, Cause::BadVariable),
+        ("é*", 1, 1, Cause::BadVariable),
     ];
     for (text, line, column, cause) in rows {
         assert!(rt; text.len() <= 4_194_304);
@@ -56,6 +60,8 @@ fn a_text_without_fault_has_tokens(rt: HostRuntime) -> Result<(), Fail> {
         ("A == B*9.", 4),
         ("-999999999--1--FIN-", 3),
         ("A*99B", 2),
+        ("A*", 1),
+        ("U*1A", 2),
         ("\"\" \"#\"#\"", 2),
         ("É'_1+(a,b)/.", 9),
     ];
@@ -142,5 +148,22 @@ fn a_thousand_and_one_open_are_too_deep(rt: HostRuntime) -> Result<(), Fail> {
         })?;
     }
     assert_eq!(rt; too_deep(&found), Some(1002));
+    Ok(())
+}
+
+/// How many tokens a text has that is 4 MiB of one byte.
+fn count_in_four_mebibytes(alloc: Global, byte: u8) -> Result<usize, Fail> {
+    let text = String::from_utf8(vec![in alloc; byte; 4_194_304]?)?;
+    if text.len() > 4_194_304 {
+        return Err(Fail::new("too long"));
+    }
+    Ok(tokens(alloc, &text)?.len())
+}
+
+#[test]
+fn four_mebibytes_are_one_label_or_no_token_or_as_many_tokens(rt: HostRuntime) -> Result<(), Fail> {
+    assert_eq!(rt; count_in_four_mebibytes(rt.alloc(), b'A')?, 1);
+    assert_eq!(rt; count_in_four_mebibytes(rt.alloc(), b' ')?, 0);
+    assert_eq!(rt; count_in_four_mebibytes(rt.alloc(), b'(')?, 4_194_304);
     Ok(())
 }
