@@ -112,6 +112,13 @@ fn rounds_and_cleaning_leave_what_they_are_defined_to(rt: HostRuntime) -> Result
             b"# S 2\n-GRAPHE-\n-3- P -4-.\n-4- Q -2-.\n-1- R -5-.\n-5- S -3-.\n-FIN-\n".as_slice(),
         ),
         (
+            "paths of one rule go in dictionary order, by their first arcs and not by their last",
+            "run",
+            b"-SYSTEME- S.\nA == Y.\nB == X.\nX + Y == U + V.\n-GRAPHE-\n-1- X + A + B + Y -2-.\n-FIN-\n".as_slice(),
+            Status::Done,
+            b"# S 4\n-GRAPHE-\n-1- U -4-.\n-4- V -3-.\n-3- U -5-.\n-5- V -2-.\n-FIN-\n".as_slice(),
+        ),
+        (
             "a limit that is met in the middle of a round",
             "run --limit 2",
             b"-SYSTEME- S.\nA == B.\n-GRAPHE-\n-1- A + A + A -2-.\n-FIN-\n".as_slice(),
