@@ -1,4 +1,6 @@
 pub mod Graphs
+pub mod Validity
 pub mod Chains
 pub mod Kept
 pub mod Codes
+pub mod Orders
