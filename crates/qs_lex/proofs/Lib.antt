@@ -15,3 +15,9 @@ pub mod OpenParentheses
 pub mod Doubling
 pub mod Encodings
 pub mod Totality
+pub mod Expected
+pub mod Going
+pub mod Predictive
+pub mod Renaming
+pub mod Predicting
+pub mod Stopping

@@ -8,5 +8,8 @@ pub mod Places
 pub mod Tokens
 pub mod Refusals
 pub mod Nesting
+-- What the crates that read parts of a deck from its tokens share.
+pub mod Grammar
+pub mod Expecting
 -- No public contract cites this: it is what the private functions of the scanner compute.
 pub mod Scan

@@ -1,0 +1,142 @@
+-- Whether a grammar is read with one token of sight, decided sort by sort.
+use Rattle.std.proofs.Common.{◌≡◌, Bool, true, false, ◌||◌, ◌&&◌, not, refl, sym}
+use Rattle.std.proofs.lemmas.Bool.{false≢true}
+use Rattle.qs_lex.specs.declared.token.Word.TheVariants.{Systeme, Graphe, Fin, Dans, Hors, Et, Ou, Non}
+use Rattle.qs_lex.specs.Grammar.{Sort, a_label, a_label_variable, a_tree_variable, a_forest_variable, a_node_mark, the_word, opening, closing, comma, plus, slash, equals, stop, Form, one, part, ◌·◌, ◌∣◌, optional, repeated, Grammar}
+use Rattle.qs_lex.specs.Expecting.{nullable, first, goes_on, Apart, IsPredictive}
+use Rattle.qs_lex.proofs.Predictive.{IsPredicted}
+
+and_first : (a b : Bool) → (a && b) ≡ true → a ≡ true
+and_first true b e = refl
+and_first false b e = e
+
+and_second : (a b : Bool) → (a && b) ≡ true → b ≡ true
+and_second true b e = e
+and_second false b e = absurd (false≢true e)
+
+-- the test holds of every sort
+abbrev pub every : (Sort → Bool) → Bool
+every P = P a_label && (P a_label_variable && (P a_tree_variable && (P a_forest_variable && (P a_node_mark && (P (the_word Systeme) && (P (the_word Graphe) && (P (the_word Fin) && (P (the_word Dans) && (P (the_word Hors) && (P (the_word Et) && (P (the_word Ou) && (P (the_word Non) && (P opening && (P closing && (P comma && (P plus && (P slash && (P equals && (P stop)))))))))))))))))))
+
+every_is : (P : Sort → Bool) → every P ≡ true → (k : Sort) → P k ≡ true
+every_is P e a_label = and_first (P a_label) (P a_label_variable && (P a_tree_variable && (P a_forest_variable && (P a_node_mark && (P (the_word Systeme) && (P (the_word Graphe) && (P (the_word Fin) && (P (the_word Dans) && (P (the_word Hors) && (P (the_word Et) && (P (the_word Ou) && (P (the_word Non) && (P opening && (P closing && (P comma && (P plus && (P slash && (P equals && (P stop))))))))))))))))))) (e)
+every_is P e a_label_variable = and_first (P a_label_variable) (P a_tree_variable && (P a_forest_variable && (P a_node_mark && (P (the_word Systeme) && (P (the_word Graphe) && (P (the_word Fin) && (P (the_word Dans) && (P (the_word Hors) && (P (the_word Et) && (P (the_word Ou) && (P (the_word Non) && (P opening && (P closing && (P comma && (P plus && (P slash && (P equals && (P stop)))))))))))))))))) (and_second (P a_label) (P a_label_variable && (P a_tree_variable && (P a_forest_variable && (P a_node_mark && (P (the_word Systeme) && (P (the_word Graphe) && (P (the_word Fin) && (P (the_word Dans) && (P (the_word Hors) && (P (the_word Et) && (P (the_word Ou) && (P (the_word Non) && (P opening && (P closing && (P comma && (P plus && (P slash && (P equals && (P stop))))))))))))))))))) e)
+every_is P e a_tree_variable = and_first (P a_tree_variable) (P a_forest_variable && (P a_node_mark && (P (the_word Systeme) && (P (the_word Graphe) && (P (the_word Fin) && (P (the_word Dans) && (P (the_word Hors) && (P (the_word Et) && (P (the_word Ou) && (P (the_word Non) && (P opening && (P closing && (P comma && (P plus && (P slash && (P equals && (P stop))))))))))))))))) (and_second (P a_label_variable) (P a_tree_variable && (P a_forest_variable && (P a_node_mark && (P (the_word Systeme) && (P (the_word Graphe) && (P (the_word Fin) && (P (the_word Dans) && (P (the_word Hors) && (P (the_word Et) && (P (the_word Ou) && (P (the_word Non) && (P opening && (P closing && (P comma && (P plus && (P slash && (P equals && (P stop)))))))))))))))))) (and_second (P a_label) (P a_label_variable && (P a_tree_variable && (P a_forest_variable && (P a_node_mark && (P (the_word Systeme) && (P (the_word Graphe) && (P (the_word Fin) && (P (the_word Dans) && (P (the_word Hors) && (P (the_word Et) && (P (the_word Ou) && (P (the_word Non) && (P opening && (P closing && (P comma && (P plus && (P slash && (P equals && (P stop))))))))))))))))))) e))
+every_is P e a_forest_variable = and_first (P a_forest_variable) (P a_node_mark && (P (the_word Systeme) && (P (the_word Graphe) && (P (the_word Fin) && (P (the_word Dans) && (P (the_word Hors) && (P (the_word Et) && (P (the_word Ou) && (P (the_word Non) && (P opening && (P closing && (P comma && (P plus && (P slash && (P equals && (P stop)))))))))))))))) (and_second (P a_tree_variable) (P a_forest_variable && (P a_node_mark && (P (the_word Systeme) && (P (the_word Graphe) && (P (the_word Fin) && (P (the_word Dans) && (P (the_word Hors) && (P (the_word Et) && (P (the_word Ou) && (P (the_word Non) && (P opening && (P closing && (P comma && (P plus && (P slash && (P equals && (P stop))))))))))))))))) (and_second (P a_label_variable) (P a_tree_variable && (P a_forest_variable && (P a_node_mark && (P (the_word Systeme) && (P (the_word Graphe) && (P (the_word Fin) && (P (the_word Dans) && (P (the_word Hors) && (P (the_word Et) && (P (the_word Ou) && (P (the_word Non) && (P opening && (P closing && (P comma && (P plus && (P slash && (P equals && (P stop)))))))))))))))))) (and_second (P a_label) (P a_label_variable && (P a_tree_variable && (P a_forest_variable && (P a_node_mark && (P (the_word Systeme) && (P (the_word Graphe) && (P (the_word Fin) && (P (the_word Dans) && (P (the_word Hors) && (P (the_word Et) && (P (the_word Ou) && (P (the_word Non) && (P opening && (P closing && (P comma && (P plus && (P slash && (P equals && (P stop))))))))))))))))))) e)))
+every_is P e a_node_mark = and_first (P a_node_mark) (P (the_word Systeme) && (P (the_word Graphe) && (P (the_word Fin) && (P (the_word Dans) && (P (the_word Hors) && (P (the_word Et) && (P (the_word Ou) && (P (the_word Non) && (P opening && (P closing && (P comma && (P plus && (P slash && (P equals && (P stop))))))))))))))) (and_second (P a_forest_variable) (P a_node_mark && (P (the_word Systeme) && (P (the_word Graphe) && (P (the_word Fin) && (P (the_word Dans) && (P (the_word Hors) && (P (the_word Et) && (P (the_word Ou) && (P (the_word Non) && (P opening && (P closing && (P comma && (P plus && (P slash && (P equals && (P stop)))))))))))))))) (and_second (P a_tree_variable) (P a_forest_variable && (P a_node_mark && (P (the_word Systeme) && (P (the_word Graphe) && (P (the_word Fin) && (P (the_word Dans) && (P (the_word Hors) && (P (the_word Et) && (P (the_word Ou) && (P (the_word Non) && (P opening && (P closing && (P comma && (P plus && (P slash && (P equals && (P stop))))))))))))))))) (and_second (P a_label_variable) (P a_tree_variable && (P a_forest_variable && (P a_node_mark && (P (the_word Systeme) && (P (the_word Graphe) && (P (the_word Fin) && (P (the_word Dans) && (P (the_word Hors) && (P (the_word Et) && (P (the_word Ou) && (P (the_word Non) && (P opening && (P closing && (P comma && (P plus && (P slash && (P equals && (P stop)))))))))))))))))) (and_second (P a_label) (P a_label_variable && (P a_tree_variable && (P a_forest_variable && (P a_node_mark && (P (the_word Systeme) && (P (the_word Graphe) && (P (the_word Fin) && (P (the_word Dans) && (P (the_word Hors) && (P (the_word Et) && (P (the_word Ou) && (P (the_word Non) && (P opening && (P closing && (P comma && (P plus && (P slash && (P equals && (P stop))))))))))))))))))) e))))
+every_is P e (the_word Systeme) = and_first (P (the_word Systeme)) (P (the_word Graphe) && (P (the_word Fin) && (P (the_word Dans) && (P (the_word Hors) && (P (the_word Et) && (P (the_word Ou) && (P (the_word Non) && (P opening && (P closing && (P comma && (P plus && (P slash && (P equals && (P stop)))))))))))))) (and_second (P a_node_mark) (P (the_word Systeme) && (P (the_word Graphe) && (P (the_word Fin) && (P (the_word Dans) && (P (the_word Hors) && (P (the_word Et) && (P (the_word Ou) && (P (the_word Non) && (P opening && (P closing && (P comma && (P plus && (P slash && (P equals && (P stop))))))))))))))) (and_second (P a_forest_variable) (P a_node_mark && (P (the_word Systeme) && (P (the_word Graphe) && (P (the_word Fin) && (P (the_word Dans) && (P (the_word Hors) && (P (the_word Et) && (P (the_word Ou) && (P (the_word Non) && (P opening && (P closing && (P comma && (P plus && (P slash && (P equals && (P stop)))))))))))))))) (and_second (P a_tree_variable) (P a_forest_variable && (P a_node_mark && (P (the_word Systeme) && (P (the_word Graphe) && (P (the_word Fin) && (P (the_word Dans) && (P (the_word Hors) && (P (the_word Et) && (P (the_word Ou) && (P (the_word Non) && (P opening && (P closing && (P comma && (P plus && (P slash && (P equals && (P stop))))))))))))))))) (and_second (P a_label_variable) (P a_tree_variable && (P a_forest_variable && (P a_node_mark && (P (the_word Systeme) && (P (the_word Graphe) && (P (the_word Fin) && (P (the_word Dans) && (P (the_word Hors) && (P (the_word Et) && (P (the_word Ou) && (P (the_word Non) && (P opening && (P closing && (P comma && (P plus && (P slash && (P equals && (P stop)))))))))))))))))) (and_second (P a_label) (P a_label_variable && (P a_tree_variable && (P a_forest_variable && (P a_node_mark && (P (the_word Systeme) && (P (the_word Graphe) && (P (the_word Fin) && (P (the_word Dans) && (P (the_word Hors) && (P (the_word Et) && (P (the_word Ou) && (P (the_word Non) && (P opening && (P closing && (P comma && (P plus && (P slash && (P equals && (P stop))))))))))))))))))) e)))))
+every_is P e (the_word Graphe) = and_first (P (the_word Graphe)) (P (the_word Fin) && (P (the_word Dans) && (P (the_word Hors) && (P (the_word Et) && (P (the_word Ou) && (P (the_word Non) && (P opening && (P closing && (P comma && (P plus && (P slash && (P equals && (P stop))))))))))))) (and_second (P (the_word Systeme)) (P (the_word Graphe) && (P (the_word Fin) && (P (the_word Dans) && (P (the_word Hors) && (P (the_word Et) && (P (the_word Ou) && (P (the_word Non) && (P opening && (P closing && (P comma && (P plus && (P slash && (P equals && (P stop)))))))))))))) (and_second (P a_node_mark) (P (the_word Systeme) && (P (the_word Graphe) && (P (the_word Fin) && (P (the_word Dans) && (P (the_word Hors) && (P (the_word Et) && (P (the_word Ou) && (P (the_word Non) && (P opening && (P closing && (P comma && (P plus && (P slash && (P equals && (P stop))))))))))))))) (and_second (P a_forest_variable) (P a_node_mark && (P (the_word Systeme) && (P (the_word Graphe) && (P (the_word Fin) && (P (the_word Dans) && (P (the_word Hors) && (P (the_word Et) && (P (the_word Ou) && (P (the_word Non) && (P opening && (P closing && (P comma && (P plus && (P slash && (P equals && (P stop)))))))))))))))) (and_second (P a_tree_variable) (P a_forest_variable && (P a_node_mark && (P (the_word Systeme) && (P (the_word Graphe) && (P (the_word Fin) && (P (the_word Dans) && (P (the_word Hors) && (P (the_word Et) && (P (the_word Ou) && (P (the_word Non) && (P opening && (P closing && (P comma && (P plus && (P slash && (P equals && (P stop))))))))))))))))) (and_second (P a_label_variable) (P a_tree_variable && (P a_forest_variable && (P a_node_mark && (P (the_word Systeme) && (P (the_word Graphe) && (P (the_word Fin) && (P (the_word Dans) && (P (the_word Hors) && (P (the_word Et) && (P (the_word Ou) && (P (the_word Non) && (P opening && (P closing && (P comma && (P plus && (P slash && (P equals && (P stop)))))))))))))))))) (and_second (P a_label) (P a_label_variable && (P a_tree_variable && (P a_forest_variable && (P a_node_mark && (P (the_word Systeme) && (P (the_word Graphe) && (P (the_word Fin) && (P (the_word Dans) && (P (the_word Hors) && (P (the_word Et) && (P (the_word Ou) && (P (the_word Non) && (P opening && (P closing && (P comma && (P plus && (P slash && (P equals && (P stop))))))))))))))))))) e))))))
+every_is P e (the_word Fin) = and_first (P (the_word Fin)) (P (the_word Dans) && (P (the_word Hors) && (P (the_word Et) && (P (the_word Ou) && (P (the_word Non) && (P opening && (P closing && (P comma && (P plus && (P slash && (P equals && (P stop)))))))))))) (and_second (P (the_word Graphe)) (P (the_word Fin) && (P (the_word Dans) && (P (the_word Hors) && (P (the_word Et) && (P (the_word Ou) && (P (the_word Non) && (P opening && (P closing && (P comma && (P plus && (P slash && (P equals && (P stop))))))))))))) (and_second (P (the_word Systeme)) (P (the_word Graphe) && (P (the_word Fin) && (P (the_word Dans) && (P (the_word Hors) && (P (the_word Et) && (P (the_word Ou) && (P (the_word Non) && (P opening && (P closing && (P comma && (P plus && (P slash && (P equals && (P stop)))))))))))))) (and_second (P a_node_mark) (P (the_word Systeme) && (P (the_word Graphe) && (P (the_word Fin) && (P (the_word Dans) && (P (the_word Hors) && (P (the_word Et) && (P (the_word Ou) && (P (the_word Non) && (P opening && (P closing && (P comma && (P plus && (P slash && (P equals && (P stop))))))))))))))) (and_second (P a_forest_variable) (P a_node_mark && (P (the_word Systeme) && (P (the_word Graphe) && (P (the_word Fin) && (P (the_word Dans) && (P (the_word Hors) && (P (the_word Et) && (P (the_word Ou) && (P (the_word Non) && (P opening && (P closing && (P comma && (P plus && (P slash && (P equals && (P stop)))))))))))))))) (and_second (P a_tree_variable) (P a_forest_variable && (P a_node_mark && (P (the_word Systeme) && (P (the_word Graphe) && (P (the_word Fin) && (P (the_word Dans) && (P (the_word Hors) && (P (the_word Et) && (P (the_word Ou) && (P (the_word Non) && (P opening && (P closing && (P comma && (P plus && (P slash && (P equals && (P stop))))))))))))))))) (and_second (P a_label_variable) (P a_tree_variable && (P a_forest_variable && (P a_node_mark && (P (the_word Systeme) && (P (the_word Graphe) && (P (the_word Fin) && (P (the_word Dans) && (P (the_word Hors) && (P (the_word Et) && (P (the_word Ou) && (P (the_word Non) && (P opening && (P closing && (P comma && (P plus && (P slash && (P equals && (P stop)))))))))))))))))) (and_second (P a_label) (P a_label_variable && (P a_tree_variable && (P a_forest_variable && (P a_node_mark && (P (the_word Systeme) && (P (the_word Graphe) && (P (the_word Fin) && (P (the_word Dans) && (P (the_word Hors) && (P (the_word Et) && (P (the_word Ou) && (P (the_word Non) && (P opening && (P closing && (P comma && (P plus && (P slash && (P equals && (P stop))))))))))))))))))) e)))))))
+every_is P e (the_word Dans) = and_first (P (the_word Dans)) (P (the_word Hors) && (P (the_word Et) && (P (the_word Ou) && (P (the_word Non) && (P opening && (P closing && (P comma && (P plus && (P slash && (P equals && (P stop))))))))))) (and_second (P (the_word Fin)) (P (the_word Dans) && (P (the_word Hors) && (P (the_word Et) && (P (the_word Ou) && (P (the_word Non) && (P opening && (P closing && (P comma && (P plus && (P slash && (P equals && (P stop)))))))))))) (and_second (P (the_word Graphe)) (P (the_word Fin) && (P (the_word Dans) && (P (the_word Hors) && (P (the_word Et) && (P (the_word Ou) && (P (the_word Non) && (P opening && (P closing && (P comma && (P plus && (P slash && (P equals && (P stop))))))))))))) (and_second (P (the_word Systeme)) (P (the_word Graphe) && (P (the_word Fin) && (P (the_word Dans) && (P (the_word Hors) && (P (the_word Et) && (P (the_word Ou) && (P (the_word Non) && (P opening && (P closing && (P comma && (P plus && (P slash && (P equals && (P stop)))))))))))))) (and_second (P a_node_mark) (P (the_word Systeme) && (P (the_word Graphe) && (P (the_word Fin) && (P (the_word Dans) && (P (the_word Hors) && (P (the_word Et) && (P (the_word Ou) && (P (the_word Non) && (P opening && (P closing && (P comma && (P plus && (P slash && (P equals && (P stop))))))))))))))) (and_second (P a_forest_variable) (P a_node_mark && (P (the_word Systeme) && (P (the_word Graphe) && (P (the_word Fin) && (P (the_word Dans) && (P (the_word Hors) && (P (the_word Et) && (P (the_word Ou) && (P (the_word Non) && (P opening && (P closing && (P comma && (P plus && (P slash && (P equals && (P stop)))))))))))))))) (and_second (P a_tree_variable) (P a_forest_variable && (P a_node_mark && (P (the_word Systeme) && (P (the_word Graphe) && (P (the_word Fin) && (P (the_word Dans) && (P (the_word Hors) && (P (the_word Et) && (P (the_word Ou) && (P (the_word Non) && (P opening && (P closing && (P comma && (P plus && (P slash && (P equals && (P stop))))))))))))))))) (and_second (P a_label_variable) (P a_tree_variable && (P a_forest_variable && (P a_node_mark && (P (the_word Systeme) && (P (the_word Graphe) && (P (the_word Fin) && (P (the_word Dans) && (P (the_word Hors) && (P (the_word Et) && (P (the_word Ou) && (P (the_word Non) && (P opening && (P closing && (P comma && (P plus && (P slash && (P equals && (P stop)))))))))))))))))) (and_second (P a_label) (P a_label_variable && (P a_tree_variable && (P a_forest_variable && (P a_node_mark && (P (the_word Systeme) && (P (the_word Graphe) && (P (the_word Fin) && (P (the_word Dans) && (P (the_word Hors) && (P (the_word Et) && (P (the_word Ou) && (P (the_word Non) && (P opening && (P closing && (P comma && (P plus && (P slash && (P equals && (P stop))))))))))))))))))) e))))))))
+every_is P e (the_word Hors) = and_first (P (the_word Hors)) (P (the_word Et) && (P (the_word Ou) && (P (the_word Non) && (P opening && (P closing && (P comma && (P plus && (P slash && (P equals && (P stop)))))))))) (and_second (P (the_word Dans)) (P (the_word Hors) && (P (the_word Et) && (P (the_word Ou) && (P (the_word Non) && (P opening && (P closing && (P comma && (P plus && (P slash && (P equals && (P stop))))))))))) (and_second (P (the_word Fin)) (P (the_word Dans) && (P (the_word Hors) && (P (the_word Et) && (P (the_word Ou) && (P (the_word Non) && (P opening && (P closing && (P comma && (P plus && (P slash && (P equals && (P stop)))))))))))) (and_second (P (the_word Graphe)) (P (the_word Fin) && (P (the_word Dans) && (P (the_word Hors) && (P (the_word Et) && (P (the_word Ou) && (P (the_word Non) && (P opening && (P closing && (P comma && (P plus && (P slash && (P equals && (P stop))))))))))))) (and_second (P (the_word Systeme)) (P (the_word Graphe) && (P (the_word Fin) && (P (the_word Dans) && (P (the_word Hors) && (P (the_word Et) && (P (the_word Ou) && (P (the_word Non) && (P opening && (P closing && (P comma && (P plus && (P slash && (P equals && (P stop)))))))))))))) (and_second (P a_node_mark) (P (the_word Systeme) && (P (the_word Graphe) && (P (the_word Fin) && (P (the_word Dans) && (P (the_word Hors) && (P (the_word Et) && (P (the_word Ou) && (P (the_word Non) && (P opening && (P closing && (P comma && (P plus && (P slash && (P equals && (P stop))))))))))))))) (and_second (P a_forest_variable) (P a_node_mark && (P (the_word Systeme) && (P (the_word Graphe) && (P (the_word Fin) && (P (the_word Dans) && (P (the_word Hors) && (P (the_word Et) && (P (the_word Ou) && (P (the_word Non) && (P opening && (P closing && (P comma && (P plus && (P slash && (P equals && (P stop)))))))))))))))) (and_second (P a_tree_variable) (P a_forest_variable && (P a_node_mark && (P (the_word Systeme) && (P (the_word Graphe) && (P (the_word Fin) && (P (the_word Dans) && (P (the_word Hors) && (P (the_word Et) && (P (the_word Ou) && (P (the_word Non) && (P opening && (P closing && (P comma && (P plus && (P slash && (P equals && (P stop))))))))))))))))) (and_second (P a_label_variable) (P a_tree_variable && (P a_forest_variable && (P a_node_mark && (P (the_word Systeme) && (P (the_word Graphe) && (P (the_word Fin) && (P (the_word Dans) && (P (the_word Hors) && (P (the_word Et) && (P (the_word Ou) && (P (the_word Non) && (P opening && (P closing && (P comma && (P plus && (P slash && (P equals && (P stop)))))))))))))))))) (and_second (P a_label) (P a_label_variable && (P a_tree_variable && (P a_forest_variable && (P a_node_mark && (P (the_word Systeme) && (P (the_word Graphe) && (P (the_word Fin) && (P (the_word Dans) && (P (the_word Hors) && (P (the_word Et) && (P (the_word Ou) && (P (the_word Non) && (P opening && (P closing && (P comma && (P plus && (P slash && (P equals && (P stop))))))))))))))))))) e)))))))))
+every_is P e (the_word Et) = and_first (P (the_word Et)) (P (the_word Ou) && (P (the_word Non) && (P opening && (P closing && (P comma && (P plus && (P slash && (P equals && (P stop))))))))) (and_second (P (the_word Hors)) (P (the_word Et) && (P (the_word Ou) && (P (the_word Non) && (P opening && (P closing && (P comma && (P plus && (P slash && (P equals && (P stop)))))))))) (and_second (P (the_word Dans)) (P (the_word Hors) && (P (the_word Et) && (P (the_word Ou) && (P (the_word Non) && (P opening && (P closing && (P comma && (P plus && (P slash && (P equals && (P stop))))))))))) (and_second (P (the_word Fin)) (P (the_word Dans) && (P (the_word Hors) && (P (the_word Et) && (P (the_word Ou) && (P (the_word Non) && (P opening && (P closing && (P comma && (P plus && (P slash && (P equals && (P stop)))))))))))) (and_second (P (the_word Graphe)) (P (the_word Fin) && (P (the_word Dans) && (P (the_word Hors) && (P (the_word Et) && (P (the_word Ou) && (P (the_word Non) && (P opening && (P closing && (P comma && (P plus && (P slash && (P equals && (P stop))))))))))))) (and_second (P (the_word Systeme)) (P (the_word Graphe) && (P (the_word Fin) && (P (the_word Dans) && (P (the_word Hors) && (P (the_word Et) && (P (the_word Ou) && (P (the_word Non) && (P opening && (P closing && (P comma && (P plus && (P slash && (P equals && (P stop)))))))))))))) (and_second (P a_node_mark) (P (the_word Systeme) && (P (the_word Graphe) && (P (the_word Fin) && (P (the_word Dans) && (P (the_word Hors) && (P (the_word Et) && (P (the_word Ou) && (P (the_word Non) && (P opening && (P closing && (P comma && (P plus && (P slash && (P equals && (P stop))))))))))))))) (and_second (P a_forest_variable) (P a_node_mark && (P (the_word Systeme) && (P (the_word Graphe) && (P (the_word Fin) && (P (the_word Dans) && (P (the_word Hors) && (P (the_word Et) && (P (the_word Ou) && (P (the_word Non) && (P opening && (P closing && (P comma && (P plus && (P slash && (P equals && (P stop)))))))))))))))) (and_second (P a_tree_variable) (P a_forest_variable && (P a_node_mark && (P (the_word Systeme) && (P (the_word Graphe) && (P (the_word Fin) && (P (the_word Dans) && (P (the_word Hors) && (P (the_word Et) && (P (the_word Ou) && (P (the_word Non) && (P opening && (P closing && (P comma && (P plus && (P slash && (P equals && (P stop))))))))))))))))) (and_second (P a_label_variable) (P a_tree_variable && (P a_forest_variable && (P a_node_mark && (P (the_word Systeme) && (P (the_word Graphe) && (P (the_word Fin) && (P (the_word Dans) && (P (the_word Hors) && (P (the_word Et) && (P (the_word Ou) && (P (the_word Non) && (P opening && (P closing && (P comma && (P plus && (P slash && (P equals && (P stop)))))))))))))))))) (and_second (P a_label) (P a_label_variable && (P a_tree_variable && (P a_forest_variable && (P a_node_mark && (P (the_word Systeme) && (P (the_word Graphe) && (P (the_word Fin) && (P (the_word Dans) && (P (the_word Hors) && (P (the_word Et) && (P (the_word Ou) && (P (the_word Non) && (P opening && (P closing && (P comma && (P plus && (P slash && (P equals && (P stop))))))))))))))))))) e))))))))))
+every_is P e (the_word Ou) = and_first (P (the_word Ou)) (P (the_word Non) && (P opening && (P closing && (P comma && (P plus && (P slash && (P equals && (P stop)))))))) (and_second (P (the_word Et)) (P (the_word Ou) && (P (the_word Non) && (P opening && (P closing && (P comma && (P plus && (P slash && (P equals && (P stop))))))))) (and_second (P (the_word Hors)) (P (the_word Et) && (P (the_word Ou) && (P (the_word Non) && (P opening && (P closing && (P comma && (P plus && (P slash && (P equals && (P stop)))))))))) (and_second (P (the_word Dans)) (P (the_word Hors) && (P (the_word Et) && (P (the_word Ou) && (P (the_word Non) && (P opening && (P closing && (P comma && (P plus && (P slash && (P equals && (P stop))))))))))) (and_second (P (the_word Fin)) (P (the_word Dans) && (P (the_word Hors) && (P (the_word Et) && (P (the_word Ou) && (P (the_word Non) && (P opening && (P closing && (P comma && (P plus && (P slash && (P equals && (P stop)))))))))))) (and_second (P (the_word Graphe)) (P (the_word Fin) && (P (the_word Dans) && (P (the_word Hors) && (P (the_word Et) && (P (the_word Ou) && (P (the_word Non) && (P opening && (P closing && (P comma && (P plus && (P slash && (P equals && (P stop))))))))))))) (and_second (P (the_word Systeme)) (P (the_word Graphe) && (P (the_word Fin) && (P (the_word Dans) && (P (the_word Hors) && (P (the_word Et) && (P (the_word Ou) && (P (the_word Non) && (P opening && (P closing && (P comma && (P plus && (P slash && (P equals && (P stop)))))))))))))) (and_second (P a_node_mark) (P (the_word Systeme) && (P (the_word Graphe) && (P (the_word Fin) && (P (the_word Dans) && (P (the_word Hors) && (P (the_word Et) && (P (the_word Ou) && (P (the_word Non) && (P opening && (P closing && (P comma && (P plus && (P slash && (P equals && (P stop))))))))))))))) (and_second (P a_forest_variable) (P a_node_mark && (P (the_word Systeme) && (P (the_word Graphe) && (P (the_word Fin) && (P (the_word Dans) && (P (the_word Hors) && (P (the_word Et) && (P (the_word Ou) && (P (the_word Non) && (P opening && (P closing && (P comma && (P plus && (P slash && (P equals && (P stop)))))))))))))))) (and_second (P a_tree_variable) (P a_forest_variable && (P a_node_mark && (P (the_word Systeme) && (P (the_word Graphe) && (P (the_word Fin) && (P (the_word Dans) && (P (the_word Hors) && (P (the_word Et) && (P (the_word Ou) && (P (the_word Non) && (P opening && (P closing && (P comma && (P plus && (P slash && (P equals && (P stop))))))))))))))))) (and_second (P a_label_variable) (P a_tree_variable && (P a_forest_variable && (P a_node_mark && (P (the_word Systeme) && (P (the_word Graphe) && (P (the_word Fin) && (P (the_word Dans) && (P (the_word Hors) && (P (the_word Et) && (P (the_word Ou) && (P (the_word Non) && (P opening && (P closing && (P comma && (P plus && (P slash && (P equals && (P stop)))))))))))))))))) (and_second (P a_label) (P a_label_variable && (P a_tree_variable && (P a_forest_variable && (P a_node_mark && (P (the_word Systeme) && (P (the_word Graphe) && (P (the_word Fin) && (P (the_word Dans) && (P (the_word Hors) && (P (the_word Et) && (P (the_word Ou) && (P (the_word Non) && (P opening && (P closing && (P comma && (P plus && (P slash && (P equals && (P stop))))))))))))))))))) e)))))))))))
+every_is P e (the_word Non) = and_first (P (the_word Non)) (P opening && (P closing && (P comma && (P plus && (P slash && (P equals && (P stop))))))) (and_second (P (the_word Ou)) (P (the_word Non) && (P opening && (P closing && (P comma && (P plus && (P slash && (P equals && (P stop)))))))) (and_second (P (the_word Et)) (P (the_word Ou) && (P (the_word Non) && (P opening && (P closing && (P comma && (P plus && (P slash && (P equals && (P stop))))))))) (and_second (P (the_word Hors)) (P (the_word Et) && (P (the_word Ou) && (P (the_word Non) && (P opening && (P closing && (P comma && (P plus && (P slash && (P equals && (P stop)))))))))) (and_second (P (the_word Dans)) (P (the_word Hors) && (P (the_word Et) && (P (the_word Ou) && (P (the_word Non) && (P opening && (P closing && (P comma && (P plus && (P slash && (P equals && (P stop))))))))))) (and_second (P (the_word Fin)) (P (the_word Dans) && (P (the_word Hors) && (P (the_word Et) && (P (the_word Ou) && (P (the_word Non) && (P opening && (P closing && (P comma && (P plus && (P slash && (P equals && (P stop)))))))))))) (and_second (P (the_word Graphe)) (P (the_word Fin) && (P (the_word Dans) && (P (the_word Hors) && (P (the_word Et) && (P (the_word Ou) && (P (the_word Non) && (P opening && (P closing && (P comma && (P plus && (P slash && (P equals && (P stop))))))))))))) (and_second (P (the_word Systeme)) (P (the_word Graphe) && (P (the_word Fin) && (P (the_word Dans) && (P (the_word Hors) && (P (the_word Et) && (P (the_word Ou) && (P (the_word Non) && (P opening && (P closing && (P comma && (P plus && (P slash && (P equals && (P stop)))))))))))))) (and_second (P a_node_mark) (P (the_word Systeme) && (P (the_word Graphe) && (P (the_word Fin) && (P (the_word Dans) && (P (the_word Hors) && (P (the_word Et) && (P (the_word Ou) && (P (the_word Non) && (P opening && (P closing && (P comma && (P plus && (P slash && (P equals && (P stop))))))))))))))) (and_second (P a_forest_variable) (P a_node_mark && (P (the_word Systeme) && (P (the_word Graphe) && (P (the_word Fin) && (P (the_word Dans) && (P (the_word Hors) && (P (the_word Et) && (P (the_word Ou) && (P (the_word Non) && (P opening && (P closing && (P comma && (P plus && (P slash && (P equals && (P stop)))))))))))))))) (and_second (P a_tree_variable) (P a_forest_variable && (P a_node_mark && (P (the_word Systeme) && (P (the_word Graphe) && (P (the_word Fin) && (P (the_word Dans) && (P (the_word Hors) && (P (the_word Et) && (P (the_word Ou) && (P (the_word Non) && (P opening && (P closing && (P comma && (P plus && (P slash && (P equals && (P stop))))))))))))))))) (and_second (P a_label_variable) (P a_tree_variable && (P a_forest_variable && (P a_node_mark && (P (the_word Systeme) && (P (the_word Graphe) && (P (the_word Fin) && (P (the_word Dans) && (P (the_word Hors) && (P (the_word Et) && (P (the_word Ou) && (P (the_word Non) && (P opening && (P closing && (P comma && (P plus && (P slash && (P equals && (P stop)))))))))))))))))) (and_second (P a_label) (P a_label_variable && (P a_tree_variable && (P a_forest_variable && (P a_node_mark && (P (the_word Systeme) && (P (the_word Graphe) && (P (the_word Fin) && (P (the_word Dans) && (P (the_word Hors) && (P (the_word Et) && (P (the_word Ou) && (P (the_word Non) && (P opening && (P closing && (P comma && (P plus && (P slash && (P equals && (P stop))))))))))))))))))) e))))))))))))
+every_is P e opening = and_first (P opening) (P closing && (P comma && (P plus && (P slash && (P equals && (P stop)))))) (and_second (P (the_word Non)) (P opening && (P closing && (P comma && (P plus && (P slash && (P equals && (P stop))))))) (and_second (P (the_word Ou)) (P (the_word Non) && (P opening && (P closing && (P comma && (P plus && (P slash && (P equals && (P stop)))))))) (and_second (P (the_word Et)) (P (the_word Ou) && (P (the_word Non) && (P opening && (P closing && (P comma && (P plus && (P slash && (P equals && (P stop))))))))) (and_second (P (the_word Hors)) (P (the_word Et) && (P (the_word Ou) && (P (the_word Non) && (P opening && (P closing && (P comma && (P plus && (P slash && (P equals && (P stop)))))))))) (and_second (P (the_word Dans)) (P (the_word Hors) && (P (the_word Et) && (P (the_word Ou) && (P (the_word Non) && (P opening && (P closing && (P comma && (P plus && (P slash && (P equals && (P stop))))))))))) (and_second (P (the_word Fin)) (P (the_word Dans) && (P (the_word Hors) && (P (the_word Et) && (P (the_word Ou) && (P (the_word Non) && (P opening && (P closing && (P comma && (P plus && (P slash && (P equals && (P stop)))))))))))) (and_second (P (the_word Graphe)) (P (the_word Fin) && (P (the_word Dans) && (P (the_word Hors) && (P (the_word Et) && (P (the_word Ou) && (P (the_word Non) && (P opening && (P closing && (P comma && (P plus && (P slash && (P equals && (P stop))))))))))))) (and_second (P (the_word Systeme)) (P (the_word Graphe) && (P (the_word Fin) && (P (the_word Dans) && (P (the_word Hors) && (P (the_word Et) && (P (the_word Ou) && (P (the_word Non) && (P opening && (P closing && (P comma && (P plus && (P slash && (P equals && (P stop)))))))))))))) (and_second (P a_node_mark) (P (the_word Systeme) && (P (the_word Graphe) && (P (the_word Fin) && (P (the_word Dans) && (P (the_word Hors) && (P (the_word Et) && (P (the_word Ou) && (P (the_word Non) && (P opening && (P closing && (P comma && (P plus && (P slash && (P equals && (P stop))))))))))))))) (and_second (P a_forest_variable) (P a_node_mark && (P (the_word Systeme) && (P (the_word Graphe) && (P (the_word Fin) && (P (the_word Dans) && (P (the_word Hors) && (P (the_word Et) && (P (the_word Ou) && (P (the_word Non) && (P opening && (P closing && (P comma && (P plus && (P slash && (P equals && (P stop)))))))))))))))) (and_second (P a_tree_variable) (P a_forest_variable && (P a_node_mark && (P (the_word Systeme) && (P (the_word Graphe) && (P (the_word Fin) && (P (the_word Dans) && (P (the_word Hors) && (P (the_word Et) && (P (the_word Ou) && (P (the_word Non) && (P opening && (P closing && (P comma && (P plus && (P slash && (P equals && (P stop))))))))))))))))) (and_second (P a_label_variable) (P a_tree_variable && (P a_forest_variable && (P a_node_mark && (P (the_word Systeme) && (P (the_word Graphe) && (P (the_word Fin) && (P (the_word Dans) && (P (the_word Hors) && (P (the_word Et) && (P (the_word Ou) && (P (the_word Non) && (P opening && (P closing && (P comma && (P plus && (P slash && (P equals && (P stop)))))))))))))))))) (and_second (P a_label) (P a_label_variable && (P a_tree_variable && (P a_forest_variable && (P a_node_mark && (P (the_word Systeme) && (P (the_word Graphe) && (P (the_word Fin) && (P (the_word Dans) && (P (the_word Hors) && (P (the_word Et) && (P (the_word Ou) && (P (the_word Non) && (P opening && (P closing && (P comma && (P plus && (P slash && (P equals && (P stop))))))))))))))))))) e)))))))))))))
+every_is P e closing = and_first (P closing) (P comma && (P plus && (P slash && (P equals && (P stop))))) (and_second (P opening) (P closing && (P comma && (P plus && (P slash && (P equals && (P stop)))))) (and_second (P (the_word Non)) (P opening && (P closing && (P comma && (P plus && (P slash && (P equals && (P stop))))))) (and_second (P (the_word Ou)) (P (the_word Non) && (P opening && (P closing && (P comma && (P plus && (P slash && (P equals && (P stop)))))))) (and_second (P (the_word Et)) (P (the_word Ou) && (P (the_word Non) && (P opening && (P closing && (P comma && (P plus && (P slash && (P equals && (P stop))))))))) (and_second (P (the_word Hors)) (P (the_word Et) && (P (the_word Ou) && (P (the_word Non) && (P opening && (P closing && (P comma && (P plus && (P slash && (P equals && (P stop)))))))))) (and_second (P (the_word Dans)) (P (the_word Hors) && (P (the_word Et) && (P (the_word Ou) && (P (the_word Non) && (P opening && (P closing && (P comma && (P plus && (P slash && (P equals && (P stop))))))))))) (and_second (P (the_word Fin)) (P (the_word Dans) && (P (the_word Hors) && (P (the_word Et) && (P (the_word Ou) && (P (the_word Non) && (P opening && (P closing && (P comma && (P plus && (P slash && (P equals && (P stop)))))))))))) (and_second (P (the_word Graphe)) (P (the_word Fin) && (P (the_word Dans) && (P (the_word Hors) && (P (the_word Et) && (P (the_word Ou) && (P (the_word Non) && (P opening && (P closing && (P comma && (P plus && (P slash && (P equals && (P stop))))))))))))) (and_second (P (the_word Systeme)) (P (the_word Graphe) && (P (the_word Fin) && (P (the_word Dans) && (P (the_word Hors) && (P (the_word Et) && (P (the_word Ou) && (P (the_word Non) && (P opening && (P closing && (P comma && (P plus && (P slash && (P equals && (P stop)))))))))))))) (and_second (P a_node_mark) (P (the_word Systeme) && (P (the_word Graphe) && (P (the_word Fin) && (P (the_word Dans) && (P (the_word Hors) && (P (the_word Et) && (P (the_word Ou) && (P (the_word Non) && (P opening && (P closing && (P comma && (P plus && (P slash && (P equals && (P stop))))))))))))))) (and_second (P a_forest_variable) (P a_node_mark && (P (the_word Systeme) && (P (the_word Graphe) && (P (the_word Fin) && (P (the_word Dans) && (P (the_word Hors) && (P (the_word Et) && (P (the_word Ou) && (P (the_word Non) && (P opening && (P closing && (P comma && (P plus && (P slash && (P equals && (P stop)))))))))))))))) (and_second (P a_tree_variable) (P a_forest_variable && (P a_node_mark && (P (the_word Systeme) && (P (the_word Graphe) && (P (the_word Fin) && (P (the_word Dans) && (P (the_word Hors) && (P (the_word Et) && (P (the_word Ou) && (P (the_word Non) && (P opening && (P closing && (P comma && (P plus && (P slash && (P equals && (P stop))))))))))))))))) (and_second (P a_label_variable) (P a_tree_variable && (P a_forest_variable && (P a_node_mark && (P (the_word Systeme) && (P (the_word Graphe) && (P (the_word Fin) && (P (the_word Dans) && (P (the_word Hors) && (P (the_word Et) && (P (the_word Ou) && (P (the_word Non) && (P opening && (P closing && (P comma && (P plus && (P slash && (P equals && (P stop)))))))))))))))))) (and_second (P a_label) (P a_label_variable && (P a_tree_variable && (P a_forest_variable && (P a_node_mark && (P (the_word Systeme) && (P (the_word Graphe) && (P (the_word Fin) && (P (the_word Dans) && (P (the_word Hors) && (P (the_word Et) && (P (the_word Ou) && (P (the_word Non) && (P opening && (P closing && (P comma && (P plus && (P slash && (P equals && (P stop))))))))))))))))))) e))))))))))))))
+every_is P e comma = and_first (P comma) (P plus && (P slash && (P equals && (P stop)))) (and_second (P closing) (P comma && (P plus && (P slash && (P equals && (P stop))))) (and_second (P opening) (P closing && (P comma && (P plus && (P slash && (P equals && (P stop)))))) (and_second (P (the_word Non)) (P opening && (P closing && (P comma && (P plus && (P slash && (P equals && (P stop))))))) (and_second (P (the_word Ou)) (P (the_word Non) && (P opening && (P closing && (P comma && (P plus && (P slash && (P equals && (P stop)))))))) (and_second (P (the_word Et)) (P (the_word Ou) && (P (the_word Non) && (P opening && (P closing && (P comma && (P plus && (P slash && (P equals && (P stop))))))))) (and_second (P (the_word Hors)) (P (the_word Et) && (P (the_word Ou) && (P (the_word Non) && (P opening && (P closing && (P comma && (P plus && (P slash && (P equals && (P stop)))))))))) (and_second (P (the_word Dans)) (P (the_word Hors) && (P (the_word Et) && (P (the_word Ou) && (P (the_word Non) && (P opening && (P closing && (P comma && (P plus && (P slash && (P equals && (P stop))))))))))) (and_second (P (the_word Fin)) (P (the_word Dans) && (P (the_word Hors) && (P (the_word Et) && (P (the_word Ou) && (P (the_word Non) && (P opening && (P closing && (P comma && (P plus && (P slash && (P equals && (P stop)))))))))))) (and_second (P (the_word Graphe)) (P (the_word Fin) && (P (the_word Dans) && (P (the_word Hors) && (P (the_word Et) && (P (the_word Ou) && (P (the_word Non) && (P opening && (P closing && (P comma && (P plus && (P slash && (P equals && (P stop))))))))))))) (and_second (P (the_word Systeme)) (P (the_word Graphe) && (P (the_word Fin) && (P (the_word Dans) && (P (the_word Hors) && (P (the_word Et) && (P (the_word Ou) && (P (the_word Non) && (P opening && (P closing && (P comma && (P plus && (P slash && (P equals && (P stop)))))))))))))) (and_second (P a_node_mark) (P (the_word Systeme) && (P (the_word Graphe) && (P (the_word Fin) && (P (the_word Dans) && (P (the_word Hors) && (P (the_word Et) && (P (the_word Ou) && (P (the_word Non) && (P opening && (P closing && (P comma && (P plus && (P slash && (P equals && (P stop))))))))))))))) (and_second (P a_forest_variable) (P a_node_mark && (P (the_word Systeme) && (P (the_word Graphe) && (P (the_word Fin) && (P (the_word Dans) && (P (the_word Hors) && (P (the_word Et) && (P (the_word Ou) && (P (the_word Non) && (P opening && (P closing && (P comma && (P plus && (P slash && (P equals && (P stop)))))))))))))))) (and_second (P a_tree_variable) (P a_forest_variable && (P a_node_mark && (P (the_word Systeme) && (P (the_word Graphe) && (P (the_word Fin) && (P (the_word Dans) && (P (the_word Hors) && (P (the_word Et) && (P (the_word Ou) && (P (the_word Non) && (P opening && (P closing && (P comma && (P plus && (P slash && (P equals && (P stop))))))))))))))))) (and_second (P a_label_variable) (P a_tree_variable && (P a_forest_variable && (P a_node_mark && (P (the_word Systeme) && (P (the_word Graphe) && (P (the_word Fin) && (P (the_word Dans) && (P (the_word Hors) && (P (the_word Et) && (P (the_word Ou) && (P (the_word Non) && (P opening && (P closing && (P comma && (P plus && (P slash && (P equals && (P stop)))))))))))))))))) (and_second (P a_label) (P a_label_variable && (P a_tree_variable && (P a_forest_variable && (P a_node_mark && (P (the_word Systeme) && (P (the_word Graphe) && (P (the_word Fin) && (P (the_word Dans) && (P (the_word Hors) && (P (the_word Et) && (P (the_word Ou) && (P (the_word Non) && (P opening && (P closing && (P comma && (P plus && (P slash && (P equals && (P stop))))))))))))))))))) e)))))))))))))))
+every_is P e plus = and_first (P plus) (P slash && (P equals && (P stop))) (and_second (P comma) (P plus && (P slash && (P equals && (P stop)))) (and_second (P closing) (P comma && (P plus && (P slash && (P equals && (P stop))))) (and_second (P opening) (P closing && (P comma && (P plus && (P slash && (P equals && (P stop)))))) (and_second (P (the_word Non)) (P opening && (P closing && (P comma && (P plus && (P slash && (P equals && (P stop))))))) (and_second (P (the_word Ou)) (P (the_word Non) && (P opening && (P closing && (P comma && (P plus && (P slash && (P equals && (P stop)))))))) (and_second (P (the_word Et)) (P (the_word Ou) && (P (the_word Non) && (P opening && (P closing && (P comma && (P plus && (P slash && (P equals && (P stop))))))))) (and_second (P (the_word Hors)) (P (the_word Et) && (P (the_word Ou) && (P (the_word Non) && (P opening && (P closing && (P comma && (P plus && (P slash && (P equals && (P stop)))))))))) (and_second (P (the_word Dans)) (P (the_word Hors) && (P (the_word Et) && (P (the_word Ou) && (P (the_word Non) && (P opening && (P closing && (P comma && (P plus && (P slash && (P equals && (P stop))))))))))) (and_second (P (the_word Fin)) (P (the_word Dans) && (P (the_word Hors) && (P (the_word Et) && (P (the_word Ou) && (P (the_word Non) && (P opening && (P closing && (P comma && (P plus && (P slash && (P equals && (P stop)))))))))))) (and_second (P (the_word Graphe)) (P (the_word Fin) && (P (the_word Dans) && (P (the_word Hors) && (P (the_word Et) && (P (the_word Ou) && (P (the_word Non) && (P opening && (P closing && (P comma && (P plus && (P slash && (P equals && (P stop))))))))))))) (and_second (P (the_word Systeme)) (P (the_word Graphe) && (P (the_word Fin) && (P (the_word Dans) && (P (the_word Hors) && (P (the_word Et) && (P (the_word Ou) && (P (the_word Non) && (P opening && (P closing && (P comma && (P plus && (P slash && (P equals && (P stop)))))))))))))) (and_second (P a_node_mark) (P (the_word Systeme) && (P (the_word Graphe) && (P (the_word Fin) && (P (the_word Dans) && (P (the_word Hors) && (P (the_word Et) && (P (the_word Ou) && (P (the_word Non) && (P opening && (P closing && (P comma && (P plus && (P slash && (P equals && (P stop))))))))))))))) (and_second (P a_forest_variable) (P a_node_mark && (P (the_word Systeme) && (P (the_word Graphe) && (P (the_word Fin) && (P (the_word Dans) && (P (the_word Hors) && (P (the_word Et) && (P (the_word Ou) && (P (the_word Non) && (P opening && (P closing && (P comma && (P plus && (P slash && (P equals && (P stop)))))))))))))))) (and_second (P a_tree_variable) (P a_forest_variable && (P a_node_mark && (P (the_word Systeme) && (P (the_word Graphe) && (P (the_word Fin) && (P (the_word Dans) && (P (the_word Hors) && (P (the_word Et) && (P (the_word Ou) && (P (the_word Non) && (P opening && (P closing && (P comma && (P plus && (P slash && (P equals && (P stop))))))))))))))))) (and_second (P a_label_variable) (P a_tree_variable && (P a_forest_variable && (P a_node_mark && (P (the_word Systeme) && (P (the_word Graphe) && (P (the_word Fin) && (P (the_word Dans) && (P (the_word Hors) && (P (the_word Et) && (P (the_word Ou) && (P (the_word Non) && (P opening && (P closing && (P comma && (P plus && (P slash && (P equals && (P stop)))))))))))))))))) (and_second (P a_label) (P a_label_variable && (P a_tree_variable && (P a_forest_variable && (P a_node_mark && (P (the_word Systeme) && (P (the_word Graphe) && (P (the_word Fin) && (P (the_word Dans) && (P (the_word Hors) && (P (the_word Et) && (P (the_word Ou) && (P (the_word Non) && (P opening && (P closing && (P comma && (P plus && (P slash && (P equals && (P stop))))))))))))))))))) e))))))))))))))))
+every_is P e slash = and_first (P slash) (P equals && (P stop)) (and_second (P plus) (P slash && (P equals && (P stop))) (and_second (P comma) (P plus && (P slash && (P equals && (P stop)))) (and_second (P closing) (P comma && (P plus && (P slash && (P equals && (P stop))))) (and_second (P opening) (P closing && (P comma && (P plus && (P slash && (P equals && (P stop)))))) (and_second (P (the_word Non)) (P opening && (P closing && (P comma && (P plus && (P slash && (P equals && (P stop))))))) (and_second (P (the_word Ou)) (P (the_word Non) && (P opening && (P closing && (P comma && (P plus && (P slash && (P equals && (P stop)))))))) (and_second (P (the_word Et)) (P (the_word Ou) && (P (the_word Non) && (P opening && (P closing && (P comma && (P plus && (P slash && (P equals && (P stop))))))))) (and_second (P (the_word Hors)) (P (the_word Et) && (P (the_word Ou) && (P (the_word Non) && (P opening && (P closing && (P comma && (P plus && (P slash && (P equals && (P stop)))))))))) (and_second (P (the_word Dans)) (P (the_word Hors) && (P (the_word Et) && (P (the_word Ou) && (P (the_word Non) && (P opening && (P closing && (P comma && (P plus && (P slash && (P equals && (P stop))))))))))) (and_second (P (the_word Fin)) (P (the_word Dans) && (P (the_word Hors) && (P (the_word Et) && (P (the_word Ou) && (P (the_word Non) && (P opening && (P closing && (P comma && (P plus && (P slash && (P equals && (P stop)))))))))))) (and_second (P (the_word Graphe)) (P (the_word Fin) && (P (the_word Dans) && (P (the_word Hors) && (P (the_word Et) && (P (the_word Ou) && (P (the_word Non) && (P opening && (P closing && (P comma && (P plus && (P slash && (P equals && (P stop))))))))))))) (and_second (P (the_word Systeme)) (P (the_word Graphe) && (P (the_word Fin) && (P (the_word Dans) && (P (the_word Hors) && (P (the_word Et) && (P (the_word Ou) && (P (the_word Non) && (P opening && (P closing && (P comma && (P plus && (P slash && (P equals && (P stop)))))))))))))) (and_second (P a_node_mark) (P (the_word Systeme) && (P (the_word Graphe) && (P (the_word Fin) && (P (the_word Dans) && (P (the_word Hors) && (P (the_word Et) && (P (the_word Ou) && (P (the_word Non) && (P opening && (P closing && (P comma && (P plus && (P slash && (P equals && (P stop))))))))))))))) (and_second (P a_forest_variable) (P a_node_mark && (P (the_word Systeme) && (P (the_word Graphe) && (P (the_word Fin) && (P (the_word Dans) && (P (the_word Hors) && (P (the_word Et) && (P (the_word Ou) && (P (the_word Non) && (P opening && (P closing && (P comma && (P plus && (P slash && (P equals && (P stop)))))))))))))))) (and_second (P a_tree_variable) (P a_forest_variable && (P a_node_mark && (P (the_word Systeme) && (P (the_word Graphe) && (P (the_word Fin) && (P (the_word Dans) && (P (the_word Hors) && (P (the_word Et) && (P (the_word Ou) && (P (the_word Non) && (P opening && (P closing && (P comma && (P plus && (P slash && (P equals && (P stop))))))))))))))))) (and_second (P a_label_variable) (P a_tree_variable && (P a_forest_variable && (P a_node_mark && (P (the_word Systeme) && (P (the_word Graphe) && (P (the_word Fin) && (P (the_word Dans) && (P (the_word Hors) && (P (the_word Et) && (P (the_word Ou) && (P (the_word Non) && (P opening && (P closing && (P comma && (P plus && (P slash && (P equals && (P stop)))))))))))))))))) (and_second (P a_label) (P a_label_variable && (P a_tree_variable && (P a_forest_variable && (P a_node_mark && (P (the_word Systeme) && (P (the_word Graphe) && (P (the_word Fin) && (P (the_word Dans) && (P (the_word Hors) && (P (the_word Et) && (P (the_word Ou) && (P (the_word Non) && (P opening && (P closing && (P comma && (P plus && (P slash && (P equals && (P stop))))))))))))))))))) e)))))))))))))))))
+every_is P e equals = and_first (P equals) (P stop) (and_second (P slash) (P equals && (P stop)) (and_second (P plus) (P slash && (P equals && (P stop))) (and_second (P comma) (P plus && (P slash && (P equals && (P stop)))) (and_second (P closing) (P comma && (P plus && (P slash && (P equals && (P stop))))) (and_second (P opening) (P closing && (P comma && (P plus && (P slash && (P equals && (P stop)))))) (and_second (P (the_word Non)) (P opening && (P closing && (P comma && (P plus && (P slash && (P equals && (P stop))))))) (and_second (P (the_word Ou)) (P (the_word Non) && (P opening && (P closing && (P comma && (P plus && (P slash && (P equals && (P stop)))))))) (and_second (P (the_word Et)) (P (the_word Ou) && (P (the_word Non) && (P opening && (P closing && (P comma && (P plus && (P slash && (P equals && (P stop))))))))) (and_second (P (the_word Hors)) (P (the_word Et) && (P (the_word Ou) && (P (the_word Non) && (P opening && (P closing && (P comma && (P plus && (P slash && (P equals && (P stop)))))))))) (and_second (P (the_word Dans)) (P (the_word Hors) && (P (the_word Et) && (P (the_word Ou) && (P (the_word Non) && (P opening && (P closing && (P comma && (P plus && (P slash && (P equals && (P stop))))))))))) (and_second (P (the_word Fin)) (P (the_word Dans) && (P (the_word Hors) && (P (the_word Et) && (P (the_word Ou) && (P (the_word Non) && (P opening && (P closing && (P comma && (P plus && (P slash && (P equals && (P stop)))))))))))) (and_second (P (the_word Graphe)) (P (the_word Fin) && (P (the_word Dans) && (P (the_word Hors) && (P (the_word Et) && (P (the_word Ou) && (P (the_word Non) && (P opening && (P closing && (P comma && (P plus && (P slash && (P equals && (P stop))))))))))))) (and_second (P (the_word Systeme)) (P (the_word Graphe) && (P (the_word Fin) && (P (the_word Dans) && (P (the_word Hors) && (P (the_word Et) && (P (the_word Ou) && (P (the_word Non) && (P opening && (P closing && (P comma && (P plus && (P slash && (P equals && (P stop)))))))))))))) (and_second (P a_node_mark) (P (the_word Systeme) && (P (the_word Graphe) && (P (the_word Fin) && (P (the_word Dans) && (P (the_word Hors) && (P (the_word Et) && (P (the_word Ou) && (P (the_word Non) && (P opening && (P closing && (P comma && (P plus && (P slash && (P equals && (P stop))))))))))))))) (and_second (P a_forest_variable) (P a_node_mark && (P (the_word Systeme) && (P (the_word Graphe) && (P (the_word Fin) && (P (the_word Dans) && (P (the_word Hors) && (P (the_word Et) && (P (the_word Ou) && (P (the_word Non) && (P opening && (P closing && (P comma && (P plus && (P slash && (P equals && (P stop)))))))))))))))) (and_second (P a_tree_variable) (P a_forest_variable && (P a_node_mark && (P (the_word Systeme) && (P (the_word Graphe) && (P (the_word Fin) && (P (the_word Dans) && (P (the_word Hors) && (P (the_word Et) && (P (the_word Ou) && (P (the_word Non) && (P opening && (P closing && (P comma && (P plus && (P slash && (P equals && (P stop))))))))))))))))) (and_second (P a_label_variable) (P a_tree_variable && (P a_forest_variable && (P a_node_mark && (P (the_word Systeme) && (P (the_word Graphe) && (P (the_word Fin) && (P (the_word Dans) && (P (the_word Hors) && (P (the_word Et) && (P (the_word Ou) && (P (the_word Non) && (P opening && (P closing && (P comma && (P plus && (P slash && (P equals && (P stop)))))))))))))))))) (and_second (P a_label) (P a_label_variable && (P a_tree_variable && (P a_forest_variable && (P a_node_mark && (P (the_word Systeme) && (P (the_word Graphe) && (P (the_word Fin) && (P (the_word Dans) && (P (the_word Hors) && (P (the_word Et) && (P (the_word Ou) && (P (the_word Non) && (P opening && (P closing && (P comma && (P plus && (P slash && (P equals && (P stop))))))))))))))))))) e))))))))))))))))))
+every_is P e stop = and_second (P equals) (P stop) (and_second (P slash) (P equals && (P stop)) (and_second (P plus) (P slash && (P equals && (P stop))) (and_second (P comma) (P plus && (P slash && (P equals && (P stop)))) (and_second (P closing) (P comma && (P plus && (P slash && (P equals && (P stop))))) (and_second (P opening) (P closing && (P comma && (P plus && (P slash && (P equals && (P stop)))))) (and_second (P (the_word Non)) (P opening && (P closing && (P comma && (P plus && (P slash && (P equals && (P stop))))))) (and_second (P (the_word Ou)) (P (the_word Non) && (P opening && (P closing && (P comma && (P plus && (P slash && (P equals && (P stop)))))))) (and_second (P (the_word Et)) (P (the_word Ou) && (P (the_word Non) && (P opening && (P closing && (P comma && (P plus && (P slash && (P equals && (P stop))))))))) (and_second (P (the_word Hors)) (P (the_word Et) && (P (the_word Ou) && (P (the_word Non) && (P opening && (P closing && (P comma && (P plus && (P slash && (P equals && (P stop)))))))))) (and_second (P (the_word Dans)) (P (the_word Hors) && (P (the_word Et) && (P (the_word Ou) && (P (the_word Non) && (P opening && (P closing && (P comma && (P plus && (P slash && (P equals && (P stop))))))))))) (and_second (P (the_word Fin)) (P (the_word Dans) && (P (the_word Hors) && (P (the_word Et) && (P (the_word Ou) && (P (the_word Non) && (P opening && (P closing && (P comma && (P plus && (P slash && (P equals && (P stop)))))))))))) (and_second (P (the_word Graphe)) (P (the_word Fin) && (P (the_word Dans) && (P (the_word Hors) && (P (the_word Et) && (P (the_word Ou) && (P (the_word Non) && (P opening && (P closing && (P comma && (P plus && (P slash && (P equals && (P stop))))))))))))) (and_second (P (the_word Systeme)) (P (the_word Graphe) && (P (the_word Fin) && (P (the_word Dans) && (P (the_word Hors) && (P (the_word Et) && (P (the_word Ou) && (P (the_word Non) && (P opening && (P closing && (P comma && (P plus && (P slash && (P equals && (P stop)))))))))))))) (and_second (P a_node_mark) (P (the_word Systeme) && (P (the_word Graphe) && (P (the_word Fin) && (P (the_word Dans) && (P (the_word Hors) && (P (the_word Et) && (P (the_word Ou) && (P (the_word Non) && (P opening && (P closing && (P comma && (P plus && (P slash && (P equals && (P stop))))))))))))))) (and_second (P a_forest_variable) (P a_node_mark && (P (the_word Systeme) && (P (the_word Graphe) && (P (the_word Fin) && (P (the_word Dans) && (P (the_word Hors) && (P (the_word Et) && (P (the_word Ou) && (P (the_word Non) && (P opening && (P closing && (P comma && (P plus && (P slash && (P equals && (P stop)))))))))))))))) (and_second (P a_tree_variable) (P a_forest_variable && (P a_node_mark && (P (the_word Systeme) && (P (the_word Graphe) && (P (the_word Fin) && (P (the_word Dans) && (P (the_word Hors) && (P (the_word Et) && (P (the_word Ou) && (P (the_word Non) && (P opening && (P closing && (P comma && (P plus && (P slash && (P equals && (P stop))))))))))))))))) (and_second (P a_label_variable) (P a_tree_variable && (P a_forest_variable && (P a_node_mark && (P (the_word Systeme) && (P (the_word Graphe) && (P (the_word Fin) && (P (the_word Dans) && (P (the_word Hors) && (P (the_word Et) && (P (the_word Ou) && (P (the_word Non) && (P opening && (P closing && (P comma && (P plus && (P slash && (P equals && (P stop)))))))))))))))))) (and_second (P a_label) (P a_label_variable && (P a_tree_variable && (P a_forest_variable && (P a_node_mark && (P (the_word Systeme) && (P (the_word Graphe) && (P (the_word Fin) && (P (the_word Dans) && (P (the_word Hors) && (P (the_word Et) && (P (the_word Ou) && (P (the_word Non) && (P opening && (P closing && (P comma && (P plus && (P slash && (P equals && (P stop))))))))))))))))))) e))))))))))))))))))
+
+-- one test implies the other, and the two are apart
+abbrev implies : (Sort → Bool) → (Sort → Bool) → Bool
+implies p q = every (λ k. not (p k) || q k)
+
+implied : (a b : Bool) → (not a || b) ≡ true → a ≡ true → b ≡ true
+implied true b e f = e
+implied false b e f = absurd (false≢true f)
+
+implies_is : (p q : Sort → Bool) → implies p q ≡ true → (k : Sort) → p k ≡ true → q k ≡ true
+implies_is p q e k f = implied (p k) (q k) (every_is (λ k. not (p k) || q k) e k) f
+
+abbrev apart : (Sort → Bool) → (Sort → Bool) → Bool
+apart p q = every (λ k. not (p k) || not (q k))
+
+not_is : (a : Bool) → not a ≡ true → a ≡ false
+not_is true e = sym e
+not_is false e = refl
+
+pub apart_is : (p q : Sort → Bool) → apart p q ≡ true → Apart p q
+apart_is p q e k f = not_is (q k) (implied (p k) (not (q k)) (every_is (λ k. not (p k) || not (q k)) e k) f)
+
+abbrev is_predictive : {Part : Type 0} → (Part → Sort → Bool) → (Part → Sort → Bool) → Form Part → Bool
+is_predictive table more (one s) = true
+is_predictive table more (part p) = true
+is_predictive table more (f · g) = is_predictive table more f && (is_predictive table more g && apart (first table g) (goes_on table more f))
+is_predictive table more (f ∣ g) =
+    not (nullable f) && (not (nullable g) && (apart (first table f) (first table g) && (apart (first table g) (first table f) && (is_predictive table more f && is_predictive table more g))))
+is_predictive table more (optional f) = not (nullable f) && is_predictive table more f
+is_predictive table more (repeated f) = not (nullable f) && (is_predictive table more f && apart (first table f) (goes_on table more f))
+
+predictive_is : {Part : Type 0} (table more : Part → Sort → Bool) (f : Form Part) → is_predictive table more f ≡ true → IsPredictive table more f
+predictive_is table more (one s) e = tt
+predictive_is table more (part p) e = tt
+predictive_is table more (f · g) e =
+    let b = and_second (is_predictive table more f) (is_predictive table more g && apart (first table g) (goes_on table more f)) e in (
+      predictive_is table more f (and_first (is_predictive table more f) (is_predictive table more g && apart (first table g) (goes_on table more f)) e),
+      predictive_is table more g (and_first (is_predictive table more g) (apart (first table g) (goes_on table more f)) b),
+      apart_is (first table g) (goes_on table more f) (and_second (is_predictive table more g) (apart (first table g) (goes_on table more f)) b),
+    )
+predictive_is table more (f ∣ g) e =
+    let both : Bool = is_predictive table more f && is_predictive table more g in
+    let b = and_second (not (nullable f)) (not (nullable g) && (apart (first table f) (first table g) && (apart (first table g) (first table f) && both))) e in
+    let c = and_second (not (nullable g)) (apart (first table f) (first table g) && (apart (first table g) (first table f) && both)) b in
+    let d = and_second (apart (first table f) (first table g)) (apart (first table g) (first table f) && both) c in
+    let h = and_second (apart (first table g) (first table f)) both d in (
+      not_is (nullable f) (and_first (not (nullable f)) (not (nullable g) && (apart (first table f) (first table g) && (apart (first table g) (first table f) && both))) e),
+      not_is (nullable g) (and_first (not (nullable g)) (apart (first table f) (first table g) && (apart (first table g) (first table f) && both)) b),
+      apart_is (first table f) (first table g) (and_first (apart (first table f) (first table g)) (apart (first table g) (first table f) && both) c),
+      apart_is (first table g) (first table f) (and_first (apart (first table g) (first table f)) both d),
+      predictive_is table more f (and_first (is_predictive table more f) (is_predictive table more g) h),
+      predictive_is table more g (and_second (is_predictive table more f) (is_predictive table more g) h),
+    )
+predictive_is table more (optional f) e = (
+  not_is (nullable f) (and_first (not (nullable f)) (is_predictive table more f) e),
+  predictive_is table more f (and_second (not (nullable f)) (is_predictive table more f) e),
+)
+predictive_is table more (repeated f) e =
+    let b = and_second (not (nullable f)) (is_predictive table more f && apart (first table f) (goes_on table more f)) e in (
+      not_is (nullable f) (and_first (not (nullable f)) (is_predictive table more f && apart (first table f) (goes_on table more f)) e),
+      predictive_is table more f (and_first (is_predictive table more f) (apart (first table f) (goes_on table more f)) b),
+      apart_is (first table f) (goes_on table more f) (and_second (is_predictive table more f) (apart (first table f) (goes_on table more f)) b),
+    )
+
+-- what is asked of a line of a grammar
+abbrev pub is_good : {Part : Type 0} → Grammar Part → (Part → Sort → Bool) → (Part → Sort → Bool) → Part → Bool
+is_good line table more p =
+    implies (first table (line p)) (table p) && (not (nullable (line p)) && (implies (goes_on table more (line p)) (more p) && is_predictive table more (line p)))
+
+module _ {Part : Type 0} (line : Grammar Part) (table more : Part → Sort → Bool) (p : Part) (good : is_good line table more p ≡ true) where
+  behind_first : (not (nullable (line p)) && (implies (goes_on table more (line p)) (more p) && is_predictive table more (line p))) ≡ true
+  behind_first = and_second (implies (first table (line p)) (table p)) (not (nullable (line p)) && (implies (goes_on table more (line p)) (more p) && is_predictive table more (line p))) good
+
+  behind_empty : (implies (goes_on table more (line p)) (more p) && is_predictive table more (line p)) ≡ true
+  behind_empty = and_second (not (nullable (line p))) (implies (goes_on table more (line p)) (more p) && is_predictive table more (line p)) behind_first
+
+  good_begins : (k : Sort) → first table (line p) k ≡ true → table p k ≡ true
+  good_begins =
+      implies_is (first table (line p)) (table p)
+      (and_first (implies (first table (line p)) (table p)) (not (nullable (line p)) && (implies (goes_on table more (line p)) (more p) && is_predictive table more (line p))) good)
+
+  good_some : nullable (line p) ≡ false
+  good_some = not_is (nullable (line p)) (and_first (not (nullable (line p))) (implies (goes_on table more (line p)) (more p) && is_predictive table more (line p)) behind_first)
+
+  good_goes : (k : Sort) → goes_on table more (line p) k ≡ true → more p k ≡ true
+  good_goes = implies_is (goes_on table more (line p)) (more p) (and_first (implies (goes_on table more (line p)) (more p)) (is_predictive table more (line p)) behind_empty)
+
+  good_line : IsPredictive table more (line p)
+  good_line = predictive_is table more (line p) (and_second (implies (goes_on table more (line p)) (more p)) (is_predictive table more (line p)) behind_empty)
+
+pub predicted : {Part : Type 0} (line : Grammar Part) (table more : Part → Sort → Bool) → ((p : Part) → is_good line table more p ≡ true) → IsPredicted line table more
+predicted line table more good =
+    record {
+      table_is =
+          record {
+            begins = λ p. good_begins line table more p (good p);
+            never_empty = λ p. good_some line table more p (good p);
+          };
+      goes = λ p. good_goes line table more p (good p);
+      predictive = λ p. good_line line table more p (good p);
+    }
