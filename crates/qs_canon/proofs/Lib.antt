@@ -4,3 +4,5 @@ pub mod Sorting
 pub mod Existence
 pub mod Progress
 pub mod Keeping
+pub mod Growing
+pub mod Naming

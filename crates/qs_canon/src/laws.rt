@@ -1,9 +1,11 @@
 //! Laws of rounds and closures, over their definitions alone.
 
-ghost use Rattle.std.specs.Prelude.{◌≡◌, ◌⊎◌, ◌↔◌, ℕ, List};
+ghost use Rattle.std.specs.Prelude.{◌≡◌, ◌⊎◌, ◌↔◌, ◌≤◌, ◌+◌, ◌*◌, ℕ, List, length};
 ghost use Rattle.qs_tree.specs.Lists.{◌∈◌};
+ghost use Rattle.qs_tree.specs.Text.{IsNamed};
 ghost use Rattle.qs_pattern.specs.Rules.{Rule, IsAccepted, AllInClass};
-ghost use Rattle.qs_graph.specs.Graphs.{QGraph, IsPath, IsValid, IsEntry, IsExit};
+ghost use Rattle.qs_pattern.specs.Named.{ArePatternsNamed};
+ghost use Rattle.qs_graph.specs.Graphs.{Arc, QGraph, IsPath, IsValid, IsEntry, IsExit};
 ghost use Rattle.qs_firing.specs.Firings.{Firing};
 ghost use Rattle.qs_canon.specs.Rounds.{Round, HasRounds, Rounds, Stage, Closes, ClosesWithin, Needs, firings};
 
@@ -34,4 +36,17 @@ pub fn stages_stay_valid()
     ensures exit { (R : List Rule) → ((rule : Rule) → rule ∈ R → IsAccepted rule) → (G : QGraph) → IsValid G → (n : ℕ) (S : Stage) → Rounds R G n S → (m : ℕ) → IsExit G m ↔ IsExit S.graph m }
     ensures paths { (R : List Rule) → ((rule : Rule) → rule ∈ R → IsAccepted rule) → (G : QGraph) → IsValid G → (n : ℕ) (S : Stage) → Rounds R G n S
         → (f : Firing) → f ∈ firings S → (a : ℕ) × ((b : ℕ) × IsPath S.graph.arcs a f.path b) }
+{}
+
+/// Each firing of accepted rules adds at most 16 arcs and at most 16 nodes.
+pub fn stages_grow_by_firings()
+    ensures arcs { (R : List Rule) → ((rule : Rule) → rule ∈ R → IsAccepted rule) → (G : QGraph) (n : ℕ) (S : Stage) → Rounds R G n S → length S.graph.arcs ≤ length G.arcs + 16 * length S.done }
+    ensures nodes { (R : List Rule) → ((rule : Rule) → rule ∈ R → IsAccepted rule) → (G : QGraph) (n : ℕ) (S : Stage) → Rounds R G n S → S.graph.nodes ≤ G.nodes + 16 * length S.done }
+{}
+
+/// Rounds make no labels: where each label in the right sides of accepted rules and in the trees of a graph is one of the
+/// first n, so is each label in what rounds reach.
+pub fn rounds_make_no_labels()
+    ensures { (n : ℕ) (R : List Rule) → ((rule : Rule) → rule ∈ R → IsAccepted rule) → ((rule : Rule) → rule ∈ R → ArePatternsNamed n rule.right)
+        → (G : QGraph) → ((arc : Arc) → arc ∈ G.arcs → IsNamed n arc.tree) → (m : ℕ) (S : Stage) → Rounds R G m S → (arc : Arc) → arc ∈ S.graph.arcs → IsNamed n arc.tree }
 {}

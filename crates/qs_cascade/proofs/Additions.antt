@@ -3,17 +3,15 @@ use Rattle.std.proofs.Common.{◌≡◌, ℕ, zero, suc, ◌+◌, ◌<◌, ◌�
 use Rattle.std.specs.Option.{option_map}
 use Rattle.qs_tree.specs.Lists.{◌∈◌}
 use Rattle.qs_tree.specs.Trees.{Tree}
-use Rattle.qs_tree.proofs.Members.{in_append_left, in_append_right}
+use Rattle.qs_tree.proofs.Members.{in_append_right}
 use Rattle.qs_pattern.specs.declared.variable.Var.{Var}
-use Rattle.qs_pattern.specs.declared.pattern.Head.{Head}
-use Rattle.qs_pattern.specs.declared.pattern.Head.TheVariants as head
-use Rattle.qs_pattern.specs.Patterns.{Patterns, no_pattern, node_first, tree_var_first, forest_var_first, head_variables, variables_in, count, IsHeadInClass, AreInClass, NoForestAtTop}
+use Rattle.qs_pattern.specs.Patterns.{Patterns, no_pattern, node_first, tree_var_first, forest_var_first, head_variables, variables_in, count, AreInClass, NoForestAtTop}
 use Rattle.qs_pattern.specs.Substitutions.{Substitution, value_of}
-use Rattle.qs_pattern.specs.Instances.{inst, IsLabel, IsTree, IsForest, IsHeadCovered, IsCovered, IsMatch, tree_in}
-use Rattle.qs_pattern.specs.Rules.{Rule, IsAccepted, variables_if_given}
+use Rattle.qs_pattern.specs.Instances.{inst, IsCovered, IsMatch, tree_in}
+use Rattle.qs_pattern.specs.Rules.{Rule, IsAccepted}
 use Rattle.qs_pattern.proofs.VariableLemmas.{HasValue}
-use Rattle.qs_pattern.proofs.Reading.{label_of_var, tree_of_var, forest_of_var}
-use Rattle.qs_pattern.proofs.MatchLemmas.{matched_value}
+use Rattle.qs_pattern.proofs.Reading.{tree_of_var}
+use Rattle.qs_pattern.proofs.Covering.{right_values, right_covered}
 use Rattle.qs_graph.specs.Graphs.{Arc, QGraph, Leads, trees_on}
 use Rattle.qs_graph.specs.Chains.{chain, with_chain}
 use Rattle.qs_graph.proofs.Lines.{length-chain}
@@ -40,24 +38,6 @@ module _ (arcs : List Arc) where
 -- ---- the trees that are built
 
 module _ (s : Substitution) where
-  head_covered : (h : Head) → IsHeadInClass h → ((v : Var) → v ∈ head_variables h → HasValue s v) → IsHeadCovered s h
-  head_covered (head.Label l) c has = tt
-  head_covered (head.Var v) c has = let (l, e) = label_of_var s v c (has v (inl refl)) in subst IsLabel (sym e) tt
-
-  -- patterns are covered where each of their variables has a value
-  pub all_covered : (ps : Patterns) → AreInClass ps → ((v : Var) → v ∈ variables_in ps → HasValue s v) → IsCovered s ps
-  all_covered no_pattern c has = tt
-  all_covered (node_first h below behind) c has =
-      let inner = variables_in below ++ variables_in behind in (
-        head_covered h c.0 (λ v i. has v (in_append_left (head_variables h) inner v i)),
-        all_covered below c.1 (λ v i. has v (in_append_right (head_variables h) inner v (in_append_left (variables_in below) (variables_in behind) v i))),
-        all_covered behind c.2 (λ v i. has v (in_append_right (head_variables h) inner v (in_append_right (variables_in below) (variables_in behind) v i))),
-      )
-  all_covered (tree_var_first v behind) c has =
-      let (t, e) = tree_of_var s v c.0 (has v (inl refl)) in (subst IsTree (sym e) tt, all_covered behind c.1 (λ w i. has w (inr i)))
-  all_covered (forest_var_first v behind) c has =
-      let (ts, e) = forest_of_var s v c.0 (has v (inl refl)) in (subst IsForest (sym e) tt, all_covered behind c.1 (λ w i. has w (inr i)))
-
   -- each pattern of a side gives one tree
   pub length-inst : (ps : Patterns) → AreInClass ps → NoForestAtTop ps → ((v : Var) → v ∈ variables_in ps → HasValue s v) → length (inst s ps) ≡ count ps
   length-inst no_pattern c none has = refl
@@ -86,11 +66,9 @@ can_build R arcs f rule x at ok =
     let eq : Some x.rule ≡ Some rule = sym x.is_rule ∙ at in
     let same : x.rule ≡ rule = cc in
     let m : IsMatch rule.left (trees_on arcs f.path) f.values = subst (λ (r : Rule). IsMatch r.left (trees_on arcs f.path) f.values) same x.matches in
-    let has : (v : Var) → v ∈ variables_in rule.right → HasValue f.values v =
-    λ v i. matched_value rule.left (trees_on arcs f.path) f.values m v (ok.bound v (in_append_left (variables_in rule.right) (variables_if_given rule.condition) v i)) in
-    let long = length-inst f.values rule.right ok.right.in_class ok.right.no_forest_at_top has in
+    let long = length-inst f.values rule.right ok.right.in_class ok.right.no_forest_at_top (right_values rule ok (trees_on arcs f.path) f.values m) in
     record {
-      covered = all_covered f.values rule.right ok.right.in_class has;
+      covered = right_covered rule ok (trees_on arcs f.path) f.values m;
       single = ok.right.no_forest_at_top;
       is = ap (λ (o : Option Rule). unwrap_or (option_map (λ (r : Rule). inst f.values r.right) o) []) at;
       some = omega (arith, long, ok.right.some);

@@ -7,7 +7,7 @@ use Rattle.qs_graph.specs.Chains.{chain}
 use Rattle.qs_firing.specs.Firings.{Firing, Fires}
 use Rattle.qs_firing.specs.Adding.{adds, start_of, end_of, built}
 use Rattle.qs_canon.specs.Rounds.{Done, after}
-use Rattle.qs_cascade.proofs.Growth.{fires_more}
+use Rattle.qs_cascade.proofs.Reaching.{still_fires}
 
 -- some of the firings are done, and what the others do leads to what all of them do
 pub record IsDoing (R : List Rule) (n : ℕ) (G : QGraph) (done : List Done) (all : List Firing) (now : QGraph) (done_now : List Done) (rest : List Firing) : Type 0 where
@@ -32,7 +32,7 @@ doing_more R n G done all now done_now f rest new done_new first x e a b p q =
     record {
       stage = whole ∙ x.stage;
       fire = λ g j. subst (λ (H : QGraph). Fires R H.arcs g) (sym e)
-          (fires_more R now.arcs (chain (start_of now.arcs f.path) (built R f) (now.nodes + 1) (end_of now.arcs f.path)) g (x.fire g (inr j)));
+          (still_fires now.arcs (chain (start_of now.arcs f.path) (built R f) (now.nodes + 1) (end_of now.arcs f.path)) R g (x.fire g (inr j)));
       arcs = (let m = x.arcs in omega arith);
       nodes = (let m = x.nodes in omega arith);
     }

@@ -3,6 +3,8 @@ pub mod Leavings
 pub mod Findings
 pub mod Following
 pub mod Refusing
+pub mod TestRules
+pub mod Choosing
 pub mod Paths
 pub mod Extending
 pub mod Starting
@@ -12,6 +14,5 @@ pub mod Reaching
 pub mod Closings
 pub mod Taken
 pub mod Leaves
-pub mod Growth
 pub mod Additions
 pub mod Doing

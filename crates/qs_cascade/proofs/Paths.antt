@@ -11,8 +11,9 @@ use Rattle.qs_pattern.specs.Rules.{Rule}
 use Rattle.qs_match.specs.Order.{LengthsBefore}
 use Rattle.qs_graph.specs.Graphs.{Arc, Leads, IsPath, arcs_at, trees_on}
 use Rattle.qs_firing.specs.Firings.{Firing, Before}
-use Rattle.qs_cascade.specs.Finding.{firings_of, HasPath, Finds}
+use Rattle.qs_cascade.specs.Finding.{AreThose, firings_of, HasPath, Finds}
 use Rattle.qs_cascade.proofs.Findings.{before_by_lengths}
+use Rattle.qs_cascade.proofs.Choosing.{from_those, to_those, those-ascend}
 
 -- each number of a path is that of an arc
 pub arc_on : (arcs : List Arc) (a : ℕ) (ks : List ℕ) (b : ℕ) → Leads arcs a ks b → (i : ℕ) → i < length ks → (arc : Arc) × (slice_get arcs (get_or ks i 0) ≡ Some arc)
@@ -54,24 +55,26 @@ module _ (number : ℕ) (path : List ℕ) where
     firings-ascend M a.1,
   )
 
--- the firings of all matches on a path are the firings with this path
-pub matched : (number : ℕ) (rule : Rule) (arcs : List Arc) (path : List ℕ) (a b : ℕ) (M : List Substitution) (old new : List Firing) (room : ℕ) (c : Bool)
-    → IsPath arcs a path b → length path ≡ count rule.left → rule.condition ≡ None
+-- the firings of all allowed matches on a path are the firings with this path
+pub matched : (number : ℕ) (rule : Rule) (arcs : List Arc) (path : List ℕ) (a b : ℕ) (M K : List Substitution) (old new : List Firing) (room : ℕ) (c : Bool)
+    → IsPath arcs a path b → length path ≡ count rule.left → AreThose (HoldsIfGiven rule.condition) M K
     → ((s : Substitution) → s ∈ M → IsMatch rule.left (trees_on arcs path) s) → ((s : Substitution) → IsMatch rule.left (trees_on arcs path) s → s ∈ M) → Ascends LengthsBefore M
-    → new ≡ old ++ firings_of number path M → (c ≡ false → room < length new) → Finds (HasPath number rule arcs path) old new room c
-matched number rule arcs path a b M old new room c p long none sound all asc are more = record {
-  found = firings_of number path M;
+    → new ≡ old ++ firings_of number path K → (c ≡ false → room < length new) → Finds (HasPath number rule arcs path) old new room c
+matched number rule arcs path a b M K old new room c p long those sound all asc are more = record {
+  found = firings_of number path K;
   are = are;
   sound = λ f i.
-      let (s, j, e) = from_firings number path M f i in
+      let (s, j, e) = from_firings number path K f i in
+      let (m, h) = from_those (HoldsIfGiven rule.condition) M K those s j in
       subst (HasPath number rule arcs path) (sym e) (record {
-        by = record { rule_is = refl; from = a; to = b; path = p; long = long; matches = sound s j; holds = subst (λ o. HoldsIfGiven o s) (sym none) tt };
+        by = record { rule_is = refl; from = a; to = b; path = p; long = long; matches = sound s m; holds = h };
         path_is = refl;
       });
-  ascends = firings-ascend number path M asc;
+  ascends = firings-ascend number path K (those-ascend (HoldsIfGiven rule.condition) M K those asc);
   all = λ e f h.
       let m : IsMatch rule.left (trees_on arcs path) f.values = subst (λ (ks : List ℕ). IsMatch rule.left (trees_on arcs ks) f.values) h.path_is h.by.matches in
       let same : f ≡ record { rule = number; path = path; values = f.values } = (let q = h.by.rule_is in let r = h.path_is in λ i. record { rule = q i; path = r i; values = f.values }) in
-      subst (λ g. g ∈ firings_of number path M) (sym same) (to_firings number path M f.values (all f.values m));
+      subst (λ g. g ∈ firings_of number path K) (sym same)
+      (to_firings number path K f.values (to_those (HoldsIfGiven rule.condition) M K those f.values (all f.values m) h.by.holds));
   more = more;
 }

@@ -10,6 +10,7 @@ use Rattle.qs_pattern.specs.Rules.{Rule, AllInClass}
 use Rattle.qs_match.proofs.Listed.{in_left, in_right, in_either}
 use Rattle.qs_graph.specs.Graphs.{Arc, QGraph, Leads, arcs_at, trees_on}
 use Rattle.qs_graph.specs.Chains.{chain}
+use Rattle.qs_graph.proofs.Paths.{leads_more}
 use Rattle.qs_firing.specs.Firings.{Firing, Fires}
 use Rattle.qs_firing.specs.Adding.{start_of, end_of, built}
 use Rattle.qs_canon.specs.Rounds.{Round, Rounds, Done, Stage, firings, after, after_one, start, Closes, Needs}
@@ -67,10 +68,6 @@ module _ (arcs more : List Arc) where
   same_trees : (ks : List ℕ) → ((k : ℕ) → k ∈ ks → k < length arcs) → trees_on (arcs ++ more) ks ≡ trees_on arcs ks
   same_trees ks h = ap (map (λ (arc : Arc). arc.tree)) (same_arcs ks h)
 
-  still_leads : (a : ℕ) (ks : List ℕ) (b : ℕ) → Leads arcs a ks b → Leads (arcs ++ more) a ks b
-  still_leads a [] b l = l
-  still_leads a (k ∷ ks) b (arc, at, f, l) = (arc, at_old arcs more k (slice_get_within arcs k arc at) ∙ at, f, still_leads arc.to ks b l)
-
   led_before : (a : ℕ) (ks : List ℕ) (b : ℕ) → ((k : ℕ) → k ∈ ks → k < length arcs) → Leads (arcs ++ more) a ks b → Leads arcs a ks b
   led_before a [] b h l = l
   led_before a (k ∷ ks) b h (arc, at, f, l) = (arc, sym (at_old arcs more k (h k (inl refl))) ∙ at, f, led_before arc.to ks b (λ j i. h j (inr i)) l)
@@ -81,7 +78,7 @@ module _ (arcs more : List Arc) where
     is_rule = x.is_rule;
     from = x.from;
     to = x.to;
-    path = record { some = x.path.some; leads = still_leads x.from f.path x.to x.path.leads };
+    path = record { some = x.path.some; leads = leads_more arcs more x.from f.path x.to x.path.leads };
     long = x.long;
     matches = subst (λ (ts : List Tree). IsMatch x.rule.left ts f.values) (sym (same_trees f.path (path_within arcs x.from f.path x.to x.path.leads))) x.matches;
     holds = x.holds;

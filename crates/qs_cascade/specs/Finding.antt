@@ -1,5 +1,5 @@
 -- What the search for the firings of a round has found: the middle of its proof.
-use Rattle.std.specs.Prelude.{ℕ, zero, suc, ◌+◌, ◌-◌, ◌≤◌, ◌<◌, ◌≡◌, Bool, true, false, List, [], ◌∷◌, ◌++◌, length, map, slice_get, Option, Some, None}
+use Rattle.std.specs.Prelude.{ℕ, zero, suc, ◌+◌, ◌-◌, ◌≤◌, ◌<◌, ◌≡◌, ◌⊎◌, Bool, true, false, List, [], ◌∷◌, ◌++◌, length, map, slice_get, Option, Some, None}
 use Rattle.std.proofs.Common.{Global}
 use Rattle.std.specs.declared.vec.Vec.{Vec}
 use Rattle.qs_tree.specs.Lists.{◌∈◌, Ascends}
@@ -32,6 +32,12 @@ pub record FiresBy (number : ℕ) (rule : Rule) (arcs : List Arc) (f : Firing) :
 -- Some arc of the path is none of the first so many.
 abbrev pub IsNewPath : ℕ → List ℕ → Type 0
 IsNewPath old path = (k : ℕ) × (k ∈ path) × (old ≤ k)
+
+-- Those substitutions of a list of which P holds, in their order.
+abbrev pub AreThose : (Substitution → Type 0) → List Substitution → List Substitution → Type 0
+AreThose P [] those = those ≡ []
+AreThose P (s ∷ ss) those =
+    ((more : List Substitution) × P s × (those ≡ s ∷ more) × AreThose P ss more) ⊎ ((P s → ⊥) × AreThose P ss those)
 
 -- The firings of a rule on a path, one for each of these substitutions.
 abbrev pub firings_of : ℕ → List ℕ → List Substitution → List Firing

@@ -1,7 +1,10 @@
 -- How a grammar ends.
-use Rattle.std.specs.Prelude.{ℕ, ◌≡◌, ◌≤◌, ◌<◌, List, [], length}
+use Rattle.std.specs.Prelude.{ℕ, ◌≡◌, ◌≤◌, ◌<◌, ◌+◌, ◌*◌, List, [], length}
+use Rattle.qs_tree.specs.Lists.{◌∈◌}
+use Rattle.qs_tree.specs.Text.{IsNamed}
 use Rattle.qs_pattern.specs.Rules.{Rule}
-use Rattle.qs_graph.specs.Graphs.{QGraph}
+use Rattle.qs_pattern.specs.Named.{ArePatternsNamed}
+use Rattle.qs_graph.specs.Graphs.{Arc, QGraph}
 use Rattle.qs_canon.specs.Rounds.{Stage, Closes, Needs}
 use Rattle.qs_clean.specs.Cleaning.{Cleans}
 use Rattle.qs_cascade.specs.declared.stage.StageEnd.{StageEnd}
@@ -21,3 +24,21 @@ abbrev pub IsStageEnd : List Rule → QGraph → ℕ → StageEnd → Type 0
 IsStageEnd R G L (end.Left graph firings) = LeavesGraph R G L firings graph × (0 < length graph.arcs)
 IsStageEnd R G L (end.Empty firings) = (E : QGraph) × LeavesGraph R G L firings E × (E.arcs ≡ [])
 IsStageEnd R G L end.Over = Needs R G L
+
+-- A graph that is left has at most 16 arcs and 16 nodes for each of L firings more than G.
+abbrev pub GrowsWithin : QGraph → ℕ → StageEnd → Type 0
+GrowsWithin G L (end.Left graph firings) = (length graph.arcs ≤ length G.arcs + 16 * L) × (graph.nodes ≤ G.nodes + 16 * L)
+GrowsWithin G L (end.Empty firings) = Unit {0}
+GrowsWithin G L end.Over = Unit {0}
+
+-- Each label in a graph that is left is one of the first n.
+abbrev pub IsEndNamed : ℕ → StageEnd → Type 0
+IsEndNamed n (end.Left graph firings) = (arc : Arc) → arc ∈ graph.arcs → IsNamed n arc.tree
+IsEndNamed n (end.Empty firings) = Unit {0}
+IsEndNamed n end.Over = Unit {0}
+
+-- The end has no labels but those of the graph and of the rules' right sides: where all of these are among the first n, so
+-- are those in a graph that is left.
+abbrev pub MakesNoLabels : List Rule → QGraph → StageEnd → Type 0
+MakesNoLabels R G e =
+    (n : ℕ) → ((rule : Rule) → rule ∈ R → ArePatternsNamed n rule.right) → ((arc : Arc) → arc ∈ G.arcs → IsNamed n arc.tree) → IsEndNamed n e

@@ -10,3 +10,6 @@ mod stage;
 
 pub use stage::{StageEnd, stage_alone};
 pub use std::alloc::AllocError as Memory;
+
+#[cfg(test)]
+mod tests;

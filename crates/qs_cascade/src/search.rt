@@ -1,17 +1,20 @@
 //! The new firings of one rule: those whose path has an arc of the last round.
 
-ghost use Rattle.std.specs.Prelude.{◌≡◌, ◌<◌, ◌≤◌, ◌+◌, ◌^◌, ◌++◌, ◌∷◌, ◌↔◌, ◌⊎◌, [], ℕ, length, IsTrue, IfOk, OnOk, slice_get, Some};
+ghost use Rattle.std.specs.Prelude.{◌≡◌, ◌<◌, ◌≤◌, ◌+◌, ◌^◌, ◌++◌, ◌∷◌, ◌↔◌, ◌⊎◌, [], ℕ, List, length, IsTrue, IfOk, OnOk, slice_get, Some};
+ghost use Rattle.qs_tree.specs.Lists.{◌∈◌};
+ghost use Rattle.qs_tree.specs.Trees.{Tree};
 ghost use Rattle.qs_tree.specs.Cells.{tree_of};
 ghost use Rattle.qs_pattern.specs.Patterns.{one_pattern, count};
 ghost use Rattle.qs_pattern.specs.Substitutions.{Substitution};
-ghost use Rattle.qs_pattern.specs.Instances.{inst};
+ghost use Rattle.qs_pattern.specs.Instances.{inst, IsMatch};
+ghost use Rattle.qs_pattern.specs.Conditions.{HoldsIfGiven};
 ghost use Rattle.qs_graph.specs.Graphs.{Leads, IsPath, IsNode, trees_on};
-ghost use Rattle.qs_cascade.specs.Finding.{Finds, firings_of, HasPath, Begins, IsNewPath};
+ghost use Rattle.qs_cascade.specs.Finding.{Finds, AreThose, firings_of, HasPath, Begins, IsNewPath};
 
 use crate::arcs::Arcs;
 use qs_firing::Firing;
 use qs_match::all_matches;
-use qs_pattern::{Head, Pattern, Rule, Subst};
+use qs_pattern::{Head, Pattern, Rule, Subst, holds};
 use qs_tree::{Forest, TreeRef};
 use std::alloc::{AllocError, Global};
 
@@ -71,20 +74,35 @@ fn trees_on_path(alloc: Global, arcs: &Arcs, path: &[u32]) -> Result<Forest, All
     Ok(trees)
 }
 
-// Appends the firings of a rule on a path, one for each match.
+// Whether the rule's condition allows a match of its left side: it holds, or the rule has none.
+fn allows(alloc: Global, rule: &Rule, subst: &Subst) -> Result<bool, AllocError>
+    requires { (trees : List Tree) × IsMatch rule.now.left trees subst.now }
+    ensures { IfOk result (λ h. IsTrue h ↔ HoldsIfGiven rule.now.condition subst.now) }
+{
+    match rule.cond() {
+        Some(condition) => holds(alloc, condition, subst),
+        None => Ok(true),
+    }
+}
+
+// Appends the firings of a rule on a path, one for each match that its condition allows.
 fn add_matches(
     alloc: Global,
-    number: u32,
+    search: &Search<'_>,
     path: &[u32],
     matches: Vec<Subst>,
     found: &mut Vec<Firing>,
 ) -> Result<(), AllocError>
-    ensures { OnOk result (found.new.items ≡ found.old.items ++ firings_of number path.now matches.items) }
+    requires { (trees : List Tree) × ((s : Substitution) → s ∈ matches.items → IsMatch search.now.rule.now.left trees s) }
+    ensures { OnOk result ((those : List Substitution) × AreThose (HoldsIfGiven search.now.rule.now.condition) matches.items those × (found.new.items ≡ found.old.items ++ firings_of search.now.number path.now those)) }
 {
     for subst in matches {
+        if !allows(alloc, search.rule, &subst)? {
+            continue;
+        }
         let path = Vec::from_slice(alloc, path)?;
         found.push(Firing {
-            rule: number,
+            rule: search.number,
             path,
             subst,
         })?;
@@ -105,7 +123,7 @@ fn fire(
 {
     let trees = trees_on_path(alloc, search.arcs, path)?;
     let matches = all_matches(alloc, search.rule.left(), trees.view())?;
-    add_matches(alloc, search.number, path, matches, found)?;
+    add_matches(alloc, search, path, matches, found)?;
     Ok(found.len() <= search.room)
 }
 

@@ -1,7 +1,7 @@
 //! What a grammar leaves.
 
 ghost use Rattle.std.specs.Prelude.{◌≡◌, ◌<◌, ◌≤◌, ◌+◌, ◌-◌, ◌*◌, ◌^◌, length, IfOk};
-ghost use Rattle.qs_cascade.specs.Stages.{IsStageEnd};
+ghost use Rattle.qs_cascade.specs.Stages.{IsStageEnd, GrowsWithin, MakesNoLabels};
 
 use crate::closing::closure;
 use qs_clean::clean;
@@ -19,7 +19,8 @@ pub enum StageEnd {
 }
 
 /// Runs one grammar on a graph, alone: the closure of its rules, round by round, and what cleaning leaves of it. The limit
-/// is at least 1, and the numbers of arcs and of nodes of the graph, each with 16 times the limit, fit a `u32`. It always
+/// is at least 1, and the numbers of arcs and of nodes of the graph, each with 16 times the limit, fit a `u32`. A graph that
+/// is left has no more than these numbers, and no labels but those of the graph and of the rules' right sides. It always
 /// returns.
 pub fn stage_alone(
     alloc: Global,
@@ -31,7 +32,9 @@ pub fn stage_alone(
     requires rules { length rules.now < 4294967295 }
     requires arcs { length start.now.arcs + 16 * limit < 2 ^ 32 - 1 }
     requires nodes { start.now.nodes + 16 * limit < 2 ^ 32 - 1 }
-    ensures { IfOk result (λ end. IsStageEnd rules.now start.now limit end) }
+    ensures end { IfOk result (λ end. IsStageEnd rules.now start.now limit end) }
+    ensures grows { IfOk result (λ end. GrowsWithin start.now limit end) }
+    ensures labels { IfOk result (λ end. MakesNoLabels rules.now start.now end) }
 {
     let Some(closure) = closure(alloc, rules, start, limit)? else {
         return Ok(StageEnd::Over);

@@ -16,7 +16,7 @@ use Rattle.qs_clean.specs.Cleaning.{IsClosureOfValid, IsDenoted}
 use Rattle.qs_clean.proofs.Places.{marked_le, marked_lt, in_both_from, length-both}
 use Rattle.qs_clean.proofs.ArcLists.{in_map, to_map, FreeArc, free_from_link, length-keeps, not_kept, reaches_last}
 
-leads_within : (arcs : List Arc) (a : ℕ) (path : List ℕ) (b : ℕ) → Leads arcs a path b → (k : ℕ) → k ∈ path → k < length arcs
+pub leads_within : (arcs : List Arc) (a : ℕ) (path : List ℕ) (b : ℕ) → Leads arcs a path b → (k : ℕ) → k ∈ path → k < length arcs
 leads_within arcs a [] b l k i = absurd i
 leads_within arcs a (j ∷ path) b (arc, is, e, l) k (inl s) = omega (arith, slice_get_within arcs j arc is)
 leads_within arcs a (j ∷ path) b (arc, is, e, l) k (inr i) = leads_within arcs arc.to path b l k i

@@ -14,3 +14,7 @@ pub mod Closures
 pub mod Whole
 pub mod NoRules
 pub mod TestClosures
+pub mod Fewer
+pub mod MarkDecisions
+pub mod Leaving
+pub mod CascadeExistence

@@ -234,12 +234,15 @@ module _ (S : Stage) (entry exit : ℕ) (denoted from_entry to_exit : List Bool)
     pub graph_left : Cleans S new_graph
     graph_left = subst (Cleans S) (sym graph_is) (cleans_left a_kept.0 a_kept.1)
 
+    pub graph_valid : IsValid new_graph
+    graph_valid = subst IsValid (sym graph_is) (valid_left a_kept.0 a_kept.1)
+
     pub graph_kept : length new_arcs < 4294967295 → IsKept new_graph (get_or numbers entry 0) (get_or numbers exit 0)
     graph_kept few =
         let at_entry : get_or numbers entry 0 ≡ number entry = numbering-number_in left_bits entry ((in_places left_bits entry).0 (entry_in a_kept.0 a_kept.1)) in
         let at_exit : get_or numbers exit 0 ≡ number exit = numbering-number_in left_bits exit ((in_places left_bits exit).0 (exit_in a_kept.0 a_kept.1)) in
         record {
-          valid = subst IsValid (sym graph_is) (valid_left a_kept.0 a_kept.1);
+          valid = graph_valid;
           entry_is = subst (λ G. IsEntry G (get_or numbers entry 0)) (sym graph_is) (subst (IsEntry H) (sym at_entry) (new_entry a_kept.0 a_kept.1));
           exit_is = subst (λ G. IsExit G (get_or numbers exit 0)) (sym graph_is) (subst (IsExit H) (sym at_exit) (new_exit a_kept.0 a_kept.1));
           few = few;

@@ -24,6 +24,7 @@ two_to_one-accepted a b x = record {
   left = record { some = omega arith; at_most = omega arith; no_forest_at_top = side-top (a ∷ b ∷ []); in_class = side-class (a ∷ b ∷ []) };
   right = record { some = omega arith; at_most = omega arith; no_forest_at_top = side-top (x ∷ []); in_class = side-class (x ∷ []) };
   condition = tt;
+  members = tt;
   cells = omega arith;
   variables = omega arith;
   bound = λ v i. absurd i;

@@ -1,5 +1,5 @@
--- A firing of an accepted rule builds at least one tree.
-use Rattle.std.proofs.Common.{◌≡◌, ◌<◌, ◌≤◌, Bool, true, false, not, List, [], ◌∷◌, length, Some, unwrap_or, refl, sym, ◌∙◌, ap, subst, inl, inr, arith, length-append}
+-- A firing of an accepted rule builds at least one tree, and at most 16.
+use Rattle.std.proofs.Common.{◌≡◌, ◌<◌, ◌≤◌, Bool, true, false, not, List, [], ◌∷◌, length, Option, None, Some, slice_get, unwrap_or, refl, sym, ◌∙◌, ap, subst, inl, inr, arith, length-append}
 use Rattle.std.specs.Prelude.{if◌then◌else◌}
 use Rattle.std.specs.List.{filter}
 use Rattle.std.specs.Option.{option_map}
@@ -114,3 +114,27 @@ built_some R accepted arcs f fires = subst (λ ts. 0 < length ts) (sym is) some
 
     some : 0 < length (inst f.values fires.rule.right)
     some = some_tree f.values fires.rule.right ok.right.some ok.right.no_forest_at_top ok.right.in_class tree
+
+-- a value gives at most one tree at the place of a tree
+tree_in_few : (o : Option Value) → length (tree_in o) ≤ 1
+tree_in_few None = omega arith
+tree_in_few (Some (value.Label l)) = omega arith
+tree_in_few (Some (value.Tree t)) = omega arith
+tree_in_few (Some (value.Forest ts)) = omega arith
+
+-- a side stands for at most one tree for each of its patterns
+few_trees : (s : Substitution) (side : Patterns) → NoForestAtTop side → length (inst s side) ≤ count side
+few_trees s no_pattern top = omega arith
+few_trees s (node_first h kids behind) top = omega (arith, few_trees s behind top)
+few_trees s (tree_var_first v behind) top =
+    omega (arith, tree_in_few (value_of s v), few_trees s behind top, length-append (tree_in (value_of s v)) (inst s behind))
+few_trees s (forest_var_first v behind) top = absurd top
+
+pub built_few : (R : List Rule) → ((rule : Rule) → rule ∈ R → IsAccepted rule) → (f : Firing) → length (built R f) ≤ 16
+built_few R accepted f = by (slice_get R f.rule) refl
+  where
+    by : (o : Option Rule) → slice_get R f.rule ≡ o → length (unwrap_or (option_map (λ (rule : Rule). inst f.values rule.right) o) []) ≤ 16
+    by None e = omega arith
+    by (Some rule) e =
+        let side = (accepted rule (member-slice_get R f.rule rule e)).right in
+        omega (arith, few_trees f.values rule.right side.no_forest_at_top, side.at_most)

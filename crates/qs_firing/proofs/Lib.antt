@@ -3,3 +3,7 @@ pub mod Keys
 pub mod FiringDecisions
 pub mod Listing
 pub mod Building
+pub mod TreesOn
+pub mod Covered
+pub mod SameVariables
+pub mod Fired

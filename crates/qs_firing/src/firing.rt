@@ -1,10 +1,9 @@
 //! Firings.
 
 ghost use Rattle.std.specs.Prelude.{◌≡◌, IfOk};
-ghost use Rattle.qs_firing.specs.Firings.{order};
 
 use qs_pattern::Subst;
-use std::alloc::{AllocError, Global};
+use std::alloc::AllocError;
 use std::marker::Model;
 
 /// A firing: a rule by its number, a path by the numbers of its arcs, and a substitution.
@@ -24,4 +23,17 @@ impl Model for Firing {
     ghost coded = { firing_code };
 
     ghost view = { λ f. record { rule = f.rule; path = f.path.items; values = f.subst } };
+}
+
+impl Firing {
+    /// An equal firing.
+    pub fn copy(&self) -> Result<Firing, AllocError>
+        ensures { IfOk result (λ f. f ≡ self.now) }
+    {
+        Ok(Firing {
+            rule: self.rule,
+            path: self.path.clone()?,
+            subst: self.subst.copy()?,
+        })
+    }
 }

@@ -1,8 +1,18 @@
 //! Firings of rules over the arcs of a graph, their keys, and what they add.
 #![tactic(auto)]
 
+mod deciding;
 mod firing;
+mod key;
 pub mod laws;
+mod paths;
+mod view;
 
+pub use deciding::fires;
 pub use firing::Firing;
+pub use key::order;
 pub use std::alloc::AllocError as Memory;
+pub use view::View;
+
+#[cfg(test)]
+mod tests;

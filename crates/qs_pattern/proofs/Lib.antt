@@ -1,8 +1,14 @@
 pub mod InstanceLemmas
 pub mod PatternLemmas
+pub mod ConditionLemmas
+pub mod FirstOccurrences
+pub mod HoldingLemmas
+pub mod TestConditions
 pub mod SubstitutionLemmas
 pub mod VariableLemmas
 pub mod Reading
 pub mod MatchLemmas
 pub mod MatchDecisions
 pub mod Candidates
+pub mod Covering
+pub mod NamedLemmas

@@ -1,11 +1,12 @@
 -- Conditions of rules. (Colmerauer's rules have them; their exact meaning here is this project's own.)
-use Rattle.std.specs.Prelude.{ℕ, ◌+◌, ◌⊎◌, List, [], ◌++◌, Option, Some, None}
+use Rattle.std.specs.Prelude.{ℕ, ◌+◌, ◌≤◌, ◌⊎◌, List, [], ◌∷◌, ◌++◌, Option, Some, None}
 use Rattle.qs_tree.specs.Lists.{◌∈◌}
 use Rattle.qs_tree.specs.Trees.{Tree}
 use Rattle.qs_pattern.specs.declared.variable.Var.{Var}
-use Rattle.qs_pattern.specs.Patterns.{Patterns, cells, variables_in, AreInClass}
+use Rattle.qs_pattern.specs.declared.condition.Cond.{Cond, Within, Outside, Not', All', Any', Row_of-Cond, end_of-Cond, more_of-Cond}
+use Rattle.qs_pattern.specs.Patterns.{Patterns, patterns, cells, variables_in, AreInClass}
 use Rattle.qs_pattern.specs.Substitutions.{Substitution}
-use Rattle.qs_pattern.specs.Instances.{inst}
+use Rattle.qs_pattern.specs.Instances.{inst, IsCovered}
 
 -- A condition: each tree of the one list is in the other (`-DANS-`); none is (`-HORS-`); not (`-NON-`); all of several
 -- (`-ET-`); some of several (`-OU-`).
@@ -21,6 +22,23 @@ mutual
   pub data Conditions : Type 0 where
     no_condition : Conditions
     condition_first : (first : Condition) (behind : Conditions) → Conditions
+
+-- The condition of the code as such a condition.
+abbrev mutual
+  pub condition_of : Cond → Condition
+  condition_of (Within a b) = within (patterns a.items) (patterns b.items)
+  condition_of (Outside a b) = outside (patterns a.items) (patterns b.items)
+  condition_of (Not' place member) = negated (condition_of member)
+  condition_of (All' shape members) = all (row_conditions members)
+  condition_of (Any' shape members) = any (row_conditions members)
+
+  pub row_conditions : {m : _} → Row_of-Cond m → Conditions
+  row_conditions end_of-Cond = no_condition
+  row_conditions (more_of-Cond c row) = condition_first (condition_of c) (row_conditions row)
+
+abbrev pub conditions : List Cond → Conditions
+conditions [] = no_condition
+conditions (c ∷ cs) = condition_first (condition_of c) (conditions cs)
 
 -- When a condition holds under a substitution.
 abbrev mutual
@@ -82,3 +100,33 @@ abbrev mutual
   pub AreConditionsInClass : Conditions → Type 0
   AreConditionsInClass no_condition = Unit {0}
   AreConditionsInClass (condition_first c cs) = IsConditionInClass c × AreConditionsInClass cs
+
+-- Where conditions are joined, at least two are: `-ET-` and `-OU-` stand between conditions.
+abbrev pub count_conditions : Conditions → ℕ
+count_conditions no_condition = 0
+count_conditions (condition_first c cs) = count_conditions cs + 1
+
+abbrev mutual
+  pub HasEnoughMembers : Condition → Type 0
+  HasEnoughMembers (within a b) = Unit {0}
+  HasEnoughMembers (outside a b) = Unit {0}
+  HasEnoughMembers (negated c) = HasEnoughMembers c
+  HasEnoughMembers (all cs) = (2 ≤ count_conditions cs) × HaveEnoughMembers cs
+  HasEnoughMembers (any cs) = (2 ≤ count_conditions cs) × HaveEnoughMembers cs
+
+  pub HaveEnoughMembers : Conditions → Type 0
+  HaveEnoughMembers no_condition = Unit {0}
+  HaveEnoughMembers (condition_first c cs) = HasEnoughMembers c × HaveEnoughMembers cs
+
+-- Each variable of the condition has a value of its class.
+abbrev mutual
+  pub IsConditionCovered : Substitution → Condition → Type 0
+  IsConditionCovered s (within a b) = IsCovered s a × IsCovered s b
+  IsConditionCovered s (outside a b) = IsCovered s a × IsCovered s b
+  IsConditionCovered s (negated c) = IsConditionCovered s c
+  IsConditionCovered s (all cs) = AreConditionsCovered s cs
+  IsConditionCovered s (any cs) = AreConditionsCovered s cs
+
+  pub AreConditionsCovered : Substitution → Conditions → Type 0
+  AreConditionsCovered s no_condition = Unit {0}
+  AreConditionsCovered s (condition_first c cs) = IsConditionCovered s c × AreConditionsCovered s cs

@@ -6,4 +6,5 @@ pub mod Substitutions
 pub mod Instances
 pub mod Conditions
 pub mod Rules
+pub mod Named
 pub mod Codes

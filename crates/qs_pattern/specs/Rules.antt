@@ -4,7 +4,7 @@ use Rattle.qs_tree.specs.Lists.{◌∈◌}
 use Rattle.qs_pattern.specs.declared.variable.Var.{Var}
 use Rattle.qs_pattern.specs.Variables.{firsts}
 use Rattle.qs_pattern.specs.Patterns.{Patterns, count, cells, variables_in, AreInClass, NoForestAtTop}
-use Rattle.qs_pattern.specs.Conditions.{Condition, condition_cells, condition_variables, IsConditionInClass}
+use Rattle.qs_pattern.specs.Conditions.{Condition, condition_cells, condition_variables, IsConditionInClass, HasEnoughMembers}
 
 -- A rule replaces a path of trees that its left side stands for by a path of the trees that its right side stands for,
 -- where its condition holds.
@@ -26,6 +26,10 @@ abbrev pub IsInClassIfGiven : Option Condition → Type 0
 IsInClassIfGiven None = Unit {0}
 IsInClassIfGiven (Some c) = IsConditionInClass c
 
+abbrev pub HasEnoughMembersIfGiven : Option Condition → Type 0
+HasEnoughMembersIfGiven None = Unit {0}
+HasEnoughMembersIfGiven (Some c) = HasEnoughMembers c
+
 -- The variables of the whole rule in text order, with repetitions.
 abbrev pub variables_behind : Rule → List Var
 variables_behind rule = variables_in rule.right ++ variables_if_given rule.condition
@@ -44,12 +48,14 @@ pub record IsSide (side : Patterns) : Type 0 where
   pub no_forest_at_top : NoForestAtTop side
   pub in_class : AreInClass side
 
--- An accepted rule has two such sides, at most 256 labels and variables, at most 32 different variables, and each
--- variable of its right side and of its condition occurs in its left side.
+-- An accepted rule has two such sides, a condition in class that joins at least two wherever it joins, at most 256
+-- labels and variables, at most 32 different variables, and each variable of its right side and of its condition occurs
+-- in its left side.
 pub record IsAccepted (rule : Rule) : Type 0 where
   pub left : IsSide rule.left
   pub right : IsSide rule.right
   pub condition : IsInClassIfGiven rule.condition
+  pub members : HasEnoughMembersIfGiven rule.condition
   pub cells : rule_cells rule ≤ 256
   pub variables : length (firsts (rule_variables rule)) ≤ 32
   pub bound : (v : Var) → v ∈ variables_behind rule → v ∈ variables_in rule.left

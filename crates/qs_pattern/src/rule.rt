@@ -1,52 +1,61 @@
 //! Rules.
 
-ghost use Rattle.std.specs.Prelude.{◌≡◌, None, length, IfOk};
+ghost use Rattle.std.specs.Prelude.{◌≡◌, length, option_map, IfOk};
+ghost use Rattle.std.specs.Option.{option_copied};
 ghost use Rattle.qs_pattern.specs.Patterns.{patterns};
+ghost use Rattle.qs_pattern.specs.Conditions.{condition_of};
 ghost use Rattle.qs_pattern.specs.Rules.{IsAccepted};
 
-use crate::copies::copies_of;
+use crate::condition::Cond;
+use crate::copies::{copies_of, copy_if_given};
 use crate::pattern::Pattern;
 use std::alloc::{AllocError, Global};
 use std::marker::Model;
 
-/// An accepted rule: the patterns of its left side, and those that take their place. Each side has 1 to 16 patterns and
-/// no forest variable at its top, the rule has at most 256 labels and variables and at most 32 different variables, and
-/// each variable of the right side occurs in the left side.
+/// An accepted rule: the patterns of its left side, those that take their place, and maybe a condition. Each side has 1
+/// to 16 patterns and no forest variable at its top, the rule has at most 256 labels and variables and at most 32
+/// different variables, each variable of the right side and of the condition occurs in the left side, and the condition
+/// joins at least two wherever it joins.
 #[derive(Drop)]
 pub struct Rule {
     left: Vec<Pattern>,
     right: Vec<Pattern>,
+    condition: Option<Cond>,
 }
 
 impl Model for Rule {
-    ghost use Rattle.std.specs.Prelude.{None};
+    ghost use Rattle.std.specs.Prelude.{option_map};
     ghost use Rattle.qs_pattern.specs.Rules.{Rule as RuleOfPatterns, IsAccepted};
     ghost use Rattle.qs_pattern.specs.Codes.{rule_code};
     ghost use Rattle.qs_pattern.specs.Patterns.{patterns};
+    ghost use Rattle.qs_pattern.specs.Conditions.{condition_of};
 
     ghost Value = { RuleOfPatterns };
 
     ghost coded = { rule_code };
 
-    ghost view = { λ r. record { left = patterns r.left.items; right = patterns r.right.items; condition = None } };
+    ghost view = { λ r. record { left = patterns r.left.items; right = patterns r.right.items; condition = option_map condition_of r.condition } };
 
-    ghost invariant = { λ r. IsAccepted (record { left = patterns r.left.items; right = patterns r.right.items; condition = None }) };
+    ghost invariant = { λ r. IsAccepted (record { left = patterns r.left.items; right = patterns r.right.items; condition = option_map condition_of r.condition }) };
 }
 
 impl Rule {
-    /// The rule of these two sides, which have to make an accepted rule. Takes no memory.
-    pub fn new(left: Vec<Pattern>, right: Vec<Pattern>) -> Rule
-        requires { IsAccepted (record { left = patterns left.items; right = patterns right.items; condition = None }) }
-        ensures { result ≡ record { left = patterns left.items; right = patterns right.items; condition = None } }
+    /// The rule of these two sides and this condition, which have to make an accepted rule. Takes no memory.
+    pub fn new(left: Vec<Pattern>, right: Vec<Pattern>, condition: Option<Cond>) -> Rule
+        requires { IsAccepted (record { left = patterns left.items; right = patterns right.items; condition = option_map condition_of condition }) }
+        ensures { result ≡ record { left = patterns left.items; right = patterns right.items; condition = option_map condition_of condition } }
     {
-        Rule { left, right }
+        Rule {
+            left,
+            right,
+            condition,
+        }
     }
 
     /// The patterns of the left side. Takes no memory.
     pub fn left(&self) -> &[Pattern]
         ensures value { patterns result.now ≡ self.now.left }
         ensures accepted { IsAccepted self.now }
-        ensures unconditional { self.now.condition ≡ None }
     {
         &self.left
     }
@@ -55,9 +64,16 @@ impl Rule {
     pub fn right(&self) -> &[Pattern]
         ensures value { patterns result.now ≡ self.now.right }
         ensures accepted { IsAccepted self.now }
-        ensures unconditional { self.now.condition ≡ None }
     {
         &self.right
+    }
+
+    /// The condition, if the rule has one. Takes no memory.
+    pub fn cond(&self) -> Option<&Cond>
+        ensures value { option_map condition_of (option_copied result) ≡ self.now.condition }
+        ensures accepted { IsAccepted self.now }
+    {
+        self.condition.as_ref()
     }
 
     /// An equal rule.
@@ -66,6 +82,11 @@ impl Rule {
     {
         let left = copies_of(alloc, &self.left)?;
         let right = copies_of(alloc, &self.right)?;
-        Ok(Rule { left, right })
+        let condition = copy_if_given(alloc, &self.condition)?;
+        Ok(Rule {
+            left,
+            right,
+            condition,
+        })
     }
 }

@@ -89,6 +89,14 @@ impl Subst {
         Ok(Subst { pairs })
     }
 
+    /// The pairs of a variable and its value, in order. Takes no memory.
+    pub fn pairs(&self) -> &[(Var, Value)]
+        ensures value { result.now ≡ self.now }
+        ensures substitution { IsSubstitution self.now }
+    {
+        &self.pairs
+    }
+
     /// What a variable stands for. None exactly where it has no value. Takes no memory.
     pub fn get(&self, var: Var) -> Option<&Value>
         ensures { option_copied result ≡ value_of self.now var }

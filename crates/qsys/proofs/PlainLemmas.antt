@@ -19,7 +19,8 @@ use Rattle.qs_pattern.specs.Patterns.{Patterns, no_pattern, node_first, tree_var
 use Rattle.qs_pattern.specs.Rules.{Rule, IsSide, IsAccepted}
 use Rattle.qs_graph.specs.Chains.{chain}
 use Rattle.qsys.specs.SimpleTexts.{WrittenRule, added, label_of, side_of, rule_of}
-use Rattle.qsys.specs.Named.{ArePatternsNamed, AreRulesNamed, AreArcsNamed}
+use Rattle.qs_pattern.specs.Named.{ArePatternsNamed}
+use Rattle.qsys.specs.Named.{AreRulesNamed, AreArcsNamed}
 use Rattle.qsys.specs.Interned.{AreLabelsOf, plain_side, plain_rule, IsRuleOf, AreRulesOf}
 use Rattle.qsys.proofs.NameLemmas.{fold_keeps, label_of_is}
 
@@ -106,6 +107,7 @@ plain_accepted left right left_some left_few right_some right_few =
       left = side_plain left left_some left_few;
       right = side_plain right right_some right_few;
       condition = tt;
+      members = tt;
       cells = omega arith;
       variables = omega arith;
       bound = λ v is.

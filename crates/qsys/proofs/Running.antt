@@ -12,11 +12,9 @@ use Rattle.qs_cascade.specs.declared.stage.StageEnd.TheVariants as end
 use Rattle.qs_cascade.specs.Stages.{IsStageEnd}
 use Rattle.qsys.specs.declared.status.Status.{Status}
 use Rattle.qsys.specs.SimpleTexts.{IsReadingOf}
-use Rattle.qsys.specs.Named.{AreRulesNamed, AreArcsNamed}
 use Rattle.qsys.specs.Outcomes.{block}
-use Rattle.qsys.specs.Ends.{left_of, ending_of, IsLeftNamed}
+use Rattle.qsys.specs.Ends.{left_of, ending_of}
 use Rattle.qsys.specs.Defined.{IsDefined, status_of}
-use Rattle.qsys.proofs.KeepingNames.{BuildNamed, build_named, left_named}
 
 -- a chain has an arc for each tree
 chain_length : (a : ℕ) (ts : List Tree) (next b : ℕ) → length (chain a ts next b) ≡ length ts
@@ -38,19 +36,6 @@ nodes_fit {names = names} {graph = graph} r =
     let parts = r.simple.parts in
     let count : graph.nodes ≡ 2 + (length parts.chain - 1) = ap (λ (G : QGraph). G.nodes) r.reading.graph_is ∙ ap (λ n. 2 + (n - 1)) (length-map parts.chain _) in
     omega (arith, r.simple.well_formed.chain.at_most)
-
--- the labels in what its grammar leaves are among the names
-pub end_named : {bytes : List ℕ} {names : List (List ℕ)} {name : Label} {rules : List Rule} {graph : QGraph} (n L : ℕ) (e : StageEnd)
-    → IsReadingOf bytes names name rules graph → AreRulesNamed n rules → AreArcsNamed n graph.arcs → IsStageEnd rules graph L e
-    → IsLeftNamed n (left_of e)
-end_named {names = names} {rules = rules} {graph = graph} n L (end.Left H firings) r named arcs is =
-    let written = r.simple.parts.rules in
-    let build : BuildNamed n rules =
-    subst (λ (R : List Rule). BuildNamed n R) (sym r.reading.rules_are)
-    (build_named n names written (subst (λ (R : List Rule). AreRulesNamed n R) r.reading.rules_are named)) in
-    left_named n rules graph is.0.closure H build arcs is.0.closes is.0.cleans
-end_named n L (end.Empty firings) r named arcs is = tt
-end_named n L end.Over r named arcs is = tt
 
 -- one grammar is a cascade
 pub one_grammar : (R : List Rule) (G : QGraph) (L : ℕ) (e : StageEnd) → IsStageEnd R G L e → Cascade L G (R ∷ []) (left_of e ∷ []) (ending_of e)

@@ -33,7 +33,7 @@ pub fn plain_rule(alloc: Global, left: &[Label], right: &[Label]) -> Result<Rule
 
     ensures { IfOk result (λ rule. rule ≡ plain_rule left.now right.now) }
 {
-    Ok(Rule::new(plain_side(alloc, left)?, plain_side(alloc, right)?))
+    Ok(Rule::new(plain_side(alloc, left)?, plain_side(alloc, right)?, None))
 }
 
 /// The trees that are these labels alone.

@@ -2,7 +2,7 @@ use Rattle.std.proofs.Common.{arith, ◌≡◌, length, ap, subst}
 use Rattle.qs_canon.specs.Closures.{ClosureOf}
 use Rattle.qs_clean.specs.Cleaning.{IsLeft}
 use Rattle.qs_cascade.specs.Closing.{ClosesOrNeeds}
-use Rattle.qs_cascade.proofs.Leaves.{leaves}
+use Rattle.qs_cascade.proofs.Leaves.{leaves, left_grows, left_named}
 use Rattle.qs_cascade.proofs.stage.stage_alone.Goals as goal
 
 pub clean-requires : goal.clean-requires
@@ -21,7 +21,11 @@ clean-requires c =
     }
 
 pub returns-in_default : goal.returns-in_default
-returns-in_default c = subst (ClosesOrNeeds c.args.rules.now c.args.start.now c.args.limit) c.in_default.is c.in_ok-closure.ensures
+returns-in_default c = record {
+  end = subst (ClosesOrNeeds c.args.rules.now c.args.start.now c.args.limit) c.in_default.is c.in_ok-closure.ensures;
+  grows = tt;
+  labels = λ n right named. tt;
+}
 
 pub returns-in-Some-2 : goal.returns-in-Some-2
 returns-in-Some-2 c =
@@ -29,7 +33,11 @@ returns-in-Some-2 c =
     let view = ap (λ (closure : ClosureOf). length closure.stage.done) c.closure-2.view_is in
     let long : c.len-firings.result ≡ length c.in-Some.closure.stage.done = omega (arith, view, c.len-firings.ensures, c.closure-2.inside.firings.ok.0) in
     let left = subst (IsLeft c.in-Some.closure.stage) c.in-Some-2.is c.in_ok-graph.ensures in
-    (leaves c.args.rules.now c.args.start.now c.args.limit c.in-Some.closure x c.len-firings.result long c.in-Some-2.graph left.0, left.1)
+    record {
+      end = (leaves c.args.rules.now c.args.start.now c.args.limit c.in-Some.closure x c.len-firings.result long c.in-Some-2.graph left.0, left.1);
+      grows = left_grows c.args.rules.now c.args.start.now c.args.limit c.in-Some.closure x c.in-Some-2.graph left.0;
+      labels = left_named c.args.rules.now c.args.start.now c.args.limit c.in-Some.closure x c.in-Some-2.graph left.0;
+    }
 
 pub returns : goal.returns
 returns c =
@@ -37,4 +45,8 @@ returns c =
     let view = ap (λ (closure : ClosureOf). length closure.stage.done) c.closure-2.view_is in
     let long : c.len-firings.result ≡ length c.in-Some.closure.stage.done = omega (arith, view, c.len-firings.ensures, c.closure-2.inside.firings.ok.0) in
     let left = subst (IsLeft c.in-Some.closure.stage) c.in-None.is c.in_ok-graph.ensures in
-    (left.0, leaves c.args.rules.now c.args.start.now c.args.limit c.in-Some.closure x c.len-firings.result long left.0 left.1, left.2)
+    record {
+      end = (left.0, leaves c.args.rules.now c.args.start.now c.args.limit c.in-Some.closure x c.len-firings.result long left.0 left.1, left.2);
+      grows = tt;
+      labels = λ n right named. tt;
+    }
