@@ -1,0 +1,12 @@
+pub mod Tables
+pub mod Repeating
+pub mod SideSteps
+pub mod Growing
+pub mod ConditionSteps
+pub mod RuleSteps
+pub mod Ending
+pub mod Whole
+pub mod Told
+pub mod RulesRead
+pub mod PatternTexts
+pub mod ConditionTexts

@@ -1,0 +1,49 @@
+//! Rules as they are read.
+
+use qs_pattern::{Cond, Pattern};
+use std::alloc::{AllocError, AllocFailed};
+
+/// A rule as it was read, with no limit on its sides, cells and variables.
+#[derive(Drop)]
+pub struct RawRule {
+    /// The patterns of the left side.
+    pub left: Vec<Pattern>,
+    /// The patterns that take their place.
+    pub right: Vec<Pattern>,
+    /// The condition, if there is one.
+    pub cond: Option<Cond>,
+    /// The byte of the text at which each cell, a label or a variable, begins, in the order of the text.
+    pub at: Vec<u32>,
+}
+
+/// Why no rules were read.
+#[derive(Clone, Copy, Debug, PartialEq, Eq)]
+pub enum TextEnd {
+    /// A rule that was begun can't go on with the token at this place of the list of tokens; the length of the list where
+    /// the tokens end within a rule.
+    Syntax(usize),
+    /// There was no memory. It may come at any time.
+    Memory,
+}
+
+impl From<AllocError> for TextEnd {
+    ghost use Rattle.std.specs.Prelude.{◌≡◌};
+    ghost use Rattle.qs_ruletext.specs.declared.raw.TextEnd.TheVariants.{Memory};
+
+    ghost from_gives = { λ _ e. e ≡ Memory };
+
+    fn from(_: AllocError) -> TextEnd {
+        TextEnd::Memory
+    }
+}
+
+impl<T: Drop> From<AllocFailed<T>> for TextEnd {
+    ghost use Rattle.std.specs.Prelude.{◌≡◌};
+    ghost use Rattle.qs_ruletext.specs.declared.raw.TextEnd.TheVariants.{Memory};
+
+    ghost from_gives = { λ _ e. e ≡ Memory };
+
+    fn from(_: AllocFailed<T>) -> TextEnd {
+        TextEnd::Memory
+    }
+}
