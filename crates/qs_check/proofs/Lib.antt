@@ -1,0 +1,5 @@
+pub mod Written
+pub mod Among
+pub mod Sides
+pub mod Limits
+pub mod WhatIsRead

@@ -1,0 +1,22 @@
+//! Laws of causes and of rules that were read, over their definitions alone.
+
+ghost use Rattle.std.specs.Prelude.{ℕ, List, ◌≡◌};
+ghost use Rattle.qs_lex.specs.declared.refusal.Cause.{Cause};
+ghost use Rattle.qs_pattern.specs.Rules.{Rule, IsAccepted};
+ghost use Rattle.qs_lex.specs.declared.token.Token.{Token};
+ghost use Rattle.qs_ruletext.specs.declared.raw.RawRule.{RawRule};
+ghost use Rattle.qs_ruletext.specs.Rules.{ReadsRawRule};
+ghost use Rattle.qs_check.specs.Causes.{IsFirstCause};
+ghost use Rattle.qs_check.specs.Checking.{CanBeChecked};
+
+/// A rule has at most one first cause, at one cell, and none where it is accepted.
+pub fn one_first_cause()
+    ensures one_cause { (rule : Rule) (c d : Cause) (i j : ℕ) → IsFirstCause rule c i → IsFirstCause rule d j → c ≡ d }
+    ensures one_place { (rule : Rule) (c d : Cause) (i j : ℕ) → IsFirstCause rule c i → IsFirstCause rule d j → i ≡ j }
+    ensures none_if_accepted { (rule : Rule) (c : Cause) (i : ℕ) → IsAccepted rule → IsFirstCause rule c i → ⊥ }
+{}
+
+/// Each rule that is read from tokens can be checked.
+pub fn what_is_read_can_be_checked()
+    ensures { (names : List (List ℕ)) (text : List ℕ) (tokens : List Token) (raw : RawRule) (rest : List Token) → ReadsRawRule names text tokens raw rest → CanBeChecked raw }
+{}
