@@ -1,0 +1,13 @@
+pub mod Tables
+pub mod Repeating
+pub mod Cells
+pub mod PlainSteps
+pub mod ChainSteps
+pub mod Places
+pub mod Whole
+pub mod Numbering
+pub mod LayingSteps
+pub mod TooMany
+pub mod Written
+pub mod GraphsOfChains
+pub mod TreesLaid

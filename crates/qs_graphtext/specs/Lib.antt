@@ -1,0 +1,12 @@
+-- Chains as they are written, the grammar of graphs, what is read from their tokens, the graph that chains make, and the text
+-- of a graph. Each definition is this project's own, but that a graph is made of chains.
+pub mod WrittenChains
+pub mod Grammar
+pub mod Reading
+pub mod Refusals
+pub mod GraphOfChains
+pub mod Causes
+pub mod Texts
+-- No public contract cites these: what the private functions of the reader promise, and how the logic tells chains apart.
+pub mod Readers
+pub mod Codes
