@@ -15,6 +15,7 @@ use Rattle.qs_ruletext.specs.Reading.{any_of, all_of, ReadsList, ReadsCond, read
 use Rattle.qs_ruletext.specs.Rules.{KeepsNames}
 use Rattle.qs_ruletext.specs.Cursors.{begins_item, begins_prim, IsNext, Passes, Ends, IsRead}
 use Rattle.qs_ruletext.proofs.Tables.{ok, next_is_no, token, readable_rest, next_length, ends_on, ends_here}
+use Rattle.qs_ruletext.proofs.Naming.{names_on, sign_names}
 
 -- two lists, compared
 abbrev pub Relation : Form Part
@@ -86,6 +87,7 @@ read_within text old middle new ts end after rest a b c e first n keeps second =
           subst (λ d. ReadsPrim later text ts d rest) (sym e) (reads_within left n.2 (second.reads later k));
       passes = λ behind f. leads_on (to_second_within behind ts end after first.passes n) (second.passes behind f);
       readable = second.readable;
+      names = names_on text ts end rest old middle new first.names (names_on text end after rest middle middle new (sign_names (the_word Dans) text end after middle refl n) second.names);
       room = omega (arith, shorter, first.room, second.room);
       no_longer = omega (arith, shorter, first.no_longer, second.no_longer);
     }
@@ -102,6 +104,7 @@ read_outside text old middle new ts end after rest a b c e first n keeps second 
           subst (λ d. ReadsPrim later text ts d rest) (sym e) (reads_outside left n.2 (second.reads later k));
       passes = λ behind f. leads_on (to_second_outside behind ts end after first.passes n) (second.passes behind f);
       readable = second.readable;
+      names = names_on text ts end rest old middle new first.names (names_on text end after rest middle middle new (sign_names (the_word Hors) text end after middle refl n) second.names);
       room = omega (arith, shorter, first.room, second.room);
       no_longer = omega (arith, shorter, first.no_longer, second.no_longer);
     }
@@ -135,6 +138,7 @@ read_group text old new ts inside end rest c n found m =
       passes = λ behind f.
           leads_on (to_inside behind ts inside n) (leads_on (found.passes (one closing ∷ behind) (refl, (refl, (refl, (refl, tt))))) (token closing behind end rest m));
       readable = readable_rest text end rest m.0 m.1 found.readable;
+      names = names_on text ts inside rest old old new (sign_names opening text ts inside old refl n) (names_on text inside end rest old new new found.names (sign_names closing text end rest new refl m));
       room = omega (arith, outer, inner, found.room);
       no_longer = omega (arith, outer, inner, found.no_longer);
     }
@@ -158,6 +162,7 @@ read_comparison text old new ts rest c n found =
       reads = found.reads;
       passes = λ behind f. leads_on (to_comparison behind ts n) (found.passes behind f);
       readable = found.readable;
+      names = found.names;
       room = found.room;
       no_longer = found.no_longer;
     }
@@ -188,6 +193,7 @@ read_negated text old new ts after rest c d e n found =
       reads = λ later k. subst (λ x. ReadsNeg later text ts x rest) (sym e) (subst (λ us. ReadsNeg later text us (negated c) rest) (sym n.1) (reads_negated n.2 (found.reads later k)));
       passes = λ behind f. leads_on (to_negated behind ts after n) (found.passes behind f);
       readable = found.readable;
+      names = names_on text ts after rest old old new (sign_names (the_word Non) text ts after old refl n) found.names;
       room = omega (arith, shorter, found.room);
       no_longer = omega (arith, shorter, found.no_longer);
     }
@@ -203,6 +209,7 @@ read_not_negated text old new ts rest c n found =
       reads = λ later k. not_negated (found.reads later k);
       passes = λ behind f. leads_on (to_prim behind ts n) (found.passes behind f);
       readable = found.readable;
+      names = found.names;
       room = found.room;
       no_longer = found.no_longer;
     }

@@ -1,4 +1,5 @@
 pub mod Tables
+pub mod Naming
 pub mod Repeating
 pub mod SideSteps
 pub mod Growing
@@ -10,3 +11,5 @@ pub mod Told
 pub mod RulesRead
 pub mod PatternTexts
 pub mod ConditionTexts
+pub mod OneReading
+pub mod OneRules

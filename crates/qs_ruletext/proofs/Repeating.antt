@@ -2,14 +2,16 @@
 -- number of members, each behind a token of a given sort.
 use Rattle.std.proofs.Common.{◌≡◌, ℕ, ◌+◌, ◌≤◌, Bool, false, ◌||◌, refl, sym, subst, List, [], ◌∷◌, length, arith}
 use Rattle.qs_lex.specs.declared.token.Token.{Token}
-use Rattle.qs_lex.specs.Grammar.{Sort, Form, one, part, ◌·◌, repeated}
+use Rattle.qs_lex.specs.Grammar.{Sort, a_label, Form, one, part, ◌·◌, repeated}
 use Rattle.qs_lex.specs.Expecting.{same_sort, starts, NextIsNo, Refuse, Leads}
 use Rattle.qs_lex.proofs.Going.{leads_on, leads_part, leads_sequence, leads_done, leads_again}
 use Rattle.qs_ruletext.specs.Grammar.{Part, line}
 use Rattle.qs_ruletext.specs.declared.cursor.Halt.{Halt}
 use Rattle.qs_ruletext.specs.Rules.{KeepsNames}
+use Rattle.qs_ruletext.specs.Names.{NamesGrowUpTo}
 use Rattle.qs_ruletext.specs.Cursors.{table, Readable, IsNext, Ends, IsRead}
 use Rattle.qs_ruletext.proofs.Tables.{ok, next_is_no, not_at_end, token, next_length, ends_on}
+use Rattle.qs_ruletext.proofs.Naming.{names_on, sign_names}
 
 -- the form is read but for what may still be repeated; `Completes` says what that makes of it
 pub record Repeats (form member : Form Part) (sorts : List Sort) (Completes : List (List ℕ) → Type 0) (text : List ℕ) (tokens rest : List Token) (old new : List (List ℕ)) : Type 0 where
@@ -17,6 +19,7 @@ pub record Repeats (form member : Form Part) (sorts : List Sort) (Completes : Li
   pub reads : (later : List (List ℕ)) → KeepsNames new later → Completes later
   pub passes : (behind : List (Form Part)) → Refuse table behind sorts → Leads line (form ∷ behind) tokens (repeated member ∷ behind) rest
   pub readable : Readable text rest
+  pub names : NamesGrowUpTo text tokens rest old new
   pub room : length new + length rest ≤ length old + length tokens
   pub no_longer : length rest ≤ length tokens
 
@@ -59,22 +62,24 @@ repeats_first p m s ks Reads Completes text ts rest old new e d found keeps comp
       reads = λ later k. completes later (found.reads later k);
       passes = λ behind r. leads_on (to_member p m s behind ts e) (found.passes (repeated (one s · part m) ∷ behind) (refuse_more s m behind ks d r.1));
       readable = found.readable;
+      names = found.names;
       room = found.room;
       no_longer = found.no_longer;
     }
 
 pub repeats_more : (p m : Part) (s : Sort) (ks : List Sort) (Reads Before Completes : List (List ℕ) → Type 0) (text : List ℕ) (ts rest after end : List Token) (old middle new : List (List ℕ))
-    → Differs s ks → Repeats (part p) (one s · part m) (s ∷ ks) Before text ts rest old middle → IsNext s rest after
+    → Differs s ks → same_sort a_label s ≡ false → Repeats (part p) (one s · part m) (s ∷ ks) Before text ts rest old middle → IsNext s rest after
     → IsRead (part m) ks Reads text after end middle new → KeepsNames middle new
     → ((later : List (List ℕ)) → Before later → Reads later → Completes later)
     → Repeats (part p) (one s · part m) (s ∷ ks) Completes text ts end old new
-repeats_more p m s ks Reads Before Completes text ts rest after end old middle new d so_far n found keeps completes =
+repeats_more p m s ks Reads Before Completes text ts rest after end old middle new d no_label so_far n found keeps completes =
     let shorter = next_length s rest after n in
     record {
       keeps = λ k t e. keeps k t (so_far.keeps k t e);
       reads = λ later k. completes later (so_far.reads later (λ j t e. k j t (keeps j t e))) (found.reads later k);
       passes = λ behind r. leads_on (so_far.passes behind r) (leads_on (to_next m s behind rest after r.0 n) (found.passes (repeated (one s · part m) ∷ behind) (refuse_more s m behind ks d r.1)));
       readable = found.readable;
+      names = names_on text ts rest end old middle new so_far.names (names_on text rest after end middle middle new (sign_names s text rest after middle no_label n) found.names);
       room = omega (arith, shorter, found.room, so_far.room);
       no_longer = omega (arith, shorter, found.no_longer, so_far.no_longer);
     }
@@ -88,6 +93,7 @@ repeats_done p m s ks Reads Completes text ts rest old new all n reads =
       reads = λ later k. reads later (all.reads later k);
       passes = λ behind r. leads_on (all.passes behind r) (leads_done (one s · part m) behind rest ok refl n);
       readable = all.readable;
+      names = all.names;
       room = all.room;
       no_longer = all.no_longer;
     }

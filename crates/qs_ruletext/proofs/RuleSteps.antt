@@ -16,6 +16,7 @@ use Rattle.qs_ruletext.specs.Reading.{ReadsSide, ReadsCond}
 use Rattle.qs_ruletext.specs.Rules.{cell_bytes, ReadsCondIfGiven, no_cond, some_cond, ReadsRule, reads_rule, rule_of, ReadsRawRule, KeepsNames}
 use Rattle.qs_ruletext.specs.Cursors.{table, Readable, IsNext, Passes, Ends, IsRead}
 use Rattle.qs_ruletext.proofs.Tables.{ok, next_is_no, not_at_end, token, readable_rest, next_length, ends_on, ends_here}
+use Rattle.qs_ruletext.proofs.Naming.{no_names, names_on, sign_names}
 
 -- the condition, if one stands here
 abbrev pub IfGiven : Form Part
@@ -40,6 +41,7 @@ read_no_cond text names ts r n =
       reads = λ later k. no_cond;
       passes = λ behind f. leads_without (one slash · part cond) behind ts ok refl n;
       readable = r;
+      names = no_names text ts names;
       room = omega arith;
       no_longer = omega arith;
     }
@@ -53,6 +55,7 @@ read_some_cond text old new ts after rest c n found =
       reads = λ later k. subst (λ us. ReadsCondIfGiven later text us (Some c) rest) (sym n.1) (some_cond n.2 (found.reads later k));
       passes = λ behind f. leads_on (to_cond behind ts after f.0 n) (found.passes behind f.1);
       readable = found.readable;
+      names = names_on text ts after rest old old new (sign_names slash text ts after old refl n) found.names;
       room = omega (arith, shorter, found.room);
       no_longer = omega (arith, shorter, found.no_longer);
     }
@@ -142,6 +145,11 @@ read_rule text old first second new ts end after middle last rest left right con
           };
       passes = passes;
       readable = readable_rest text last rest m.0 m.1 given.readable;
+      names =
+          names_on text ts end rest old first new one_side.names
+          (names_on text end after rest first first new (sign_names equals text end after first refl n)
+          (names_on text after middle rest first second new other_side.names
+          (names_on text middle last rest second new new given.names (sign_names stop text last rest new refl m))));
       room = omega (arith, outer, inner, one_side.room, other_side.room, given.room);
       no_longer = omega (arith, outer, inner, one_side.no_longer, other_side.no_longer, given.no_longer);
     }

@@ -16,8 +16,10 @@ use Rattle.qs_lex.proofs.Expected.{begin_front}
 use Rattle.qs_ruletext.specs.declared.raw.RawRule.{RawRule}
 use Rattle.qs_ruletext.specs.Grammar.{rule, line}
 use Rattle.qs_ruletext.specs.Rules.{KeepsNames, ReadsRawRule, ReadsRules, NoRuleAt}
+use Rattle.qs_ruletext.specs.Names.{NamesGrowUpTo}
 use Rattle.qs_ruletext.specs.Cursors.{table, begins_tree, IsGood, Readable, IsRead}
 use Rattle.qs_ruletext.proofs.Tables.{ok}
+use Rattle.qs_ruletext.proofs.Naming.{no_names, names_on}
 use Rattle.qs_ruletext.proofs.Whole.{rules_whole}
 
 -- what stands behind the front of a list
@@ -57,6 +59,7 @@ pub record SoFar (text : List ℕ) (tokens : List Token) (from : ℕ) (rules : L
   pub keeps : KeepsNames old new
   pub reads : (later : List (List ℕ)) → KeepsNames new later → (raws : List RawRule) (end : List Token) → ReadsRules later text rest raws end → ReadsRules later text (drop from tokens) (rules ++ raws) end
   pub readable : Readable text rest
+  pub names : NamesGrowUpTo text (drop from tokens) rest old new
   pub room : length new + length rest + from ≤ length old + length tokens
   pub no_longer : length rest + from ≤ length tokens
   pub front : List Token
@@ -71,6 +74,7 @@ none_so_far text tokens from rules rest names are within none e =
       keeps = λ k t i. i;
       reads = λ later k raws end r. subst (λ x. ReadsRules later text (drop from tokens) (x ++ raws) end) (sym none) (subst (λ us. ReadsRules later text us raws end) e r);
       readable = readable_behind text tokens (take from tokens) rest are parts;
+      names = subst (λ us. NamesGrowUpTo text us rest names names) e (no_names text rest names);
       room = omega (arith, long);
       no_longer = omega (arith, long);
       front = take from tokens;
@@ -89,6 +93,7 @@ one_more_so_far text tokens from rules longer raw rest end old middle new so_far
           subst (λ x. ReadsRules later text (drop from tokens) x last) (sym (ap (λ x. x ++ raws) e ∙ append_assoc rules (raw ∷ []) raws))
           (so_far.reads later (λ j t i. k j t (keeps j t i)) (raw ∷ raws) last (end, found.reads later k, r));
       readable = found.readable;
+      names = names_on text (drop from tokens) rest end old middle new so_far.names found.names;
       room = omega (arith, so_far.room, found.room);
       no_longer = omega (arith, so_far.no_longer, found.no_longer);
       front = so_far.front ++ passed.passed;

@@ -19,6 +19,7 @@ use Rattle.qs_ruletext.specs.Grammar.{Part, tree, list, item, line}
 use Rattle.qs_ruletext.specs.Rules.{KeepsNames}
 use Rattle.qs_ruletext.specs.Cursors.{table, begins_item, begins_tree, Readable, IsNext, IsNextVariable, Passes, Ends, IsRead, IsHeadRead, begins_head, EndsAtHead}
 use Rattle.qs_ruletext.proofs.Tables.{ok, next_is_no, not_at_end, token, readable_rest, next_length, ends_on, ends_here}
+use Rattle.qs_ruletext.proofs.Naming.{no_names, names_on, one_name, sign_names}
 
 pub label_sort : (text : List ℕ) (t : Token) (spelling : List ℕ) → HasLabelText text t spelling → IsOf a_label t
 label_sort text t spelling h = by_kind t.kind (bytes_of text t) h
@@ -81,6 +82,7 @@ read_no_subtrees text names ts kids e r n =
       reads = λ later k. subst (λ p. ReadsSubtrees later text ts p ts) (sym e) no_parentheses;
       passes = λ behind f. no_subtrees behind ts n;
       readable = r;
+      names = no_names text ts names;
       room = omega arith;
       no_longer = omega arith;
     }
@@ -96,6 +98,7 @@ read_nothing_inside text names ts inside rest kids e r n m =
       reads = λ later k. subst (λ p. ReadsSubtrees later text ts p rest) (sym e) (subst (λ us. ReadsSubtrees later text us no_pattern rest) (sym are) (nothing_inside n.2 m.2));
       passes = λ behind f. closed_at_once behind ts inside rest f.0 n m;
       readable = readable_rest text inside rest m.0 m.1 (readable_rest text ts inside n.0 n.1 r);
+      names = names_on text ts inside rest names names names (sign_names opening text ts inside names refl n) (sign_names closing text inside rest names refl m);
       room = omega (arith, outer, inner);
       no_longer = omega (arith, outer, inner);
     }
@@ -114,6 +117,7 @@ read_list_inside text old new ts inside end rest kids n shut found m =
           subst (λ us. ReadsSubtrees later text us kids rest) (sym n.1) (list_inside n.2 inner_list m.2);
       passes = λ behind f. closed behind ts inside end rest f.0 n shut found.passes m;
       readable = readable_rest text end rest m.0 m.1 found.readable;
+      names = names_on text ts inside rest old old new (sign_names opening text ts inside old refl n) (names_on text inside end rest old new new found.names (sign_names closing text end rest new refl m));
       room = omega (arith, outer, inner, found.room);
       no_longer = omega (arith, outer, inner, found.no_longer);
     }
@@ -165,6 +169,7 @@ read_node text old middle new h ts rest end p kids is top keeps found =
           (subst (λ us. ReadsTree later text us (node_first h kids no_pattern) end) (sym top.are) (reads_node (top.is_head later (λ j x i. k j x (keeps j x i))) (found.reads later k)));
       passes = λ behind f. leads_on (after_head middle text h behind top.next ts rest top.are (top.is_head middle (λ j x i. i))) (found.passes behind f);
       readable = found.readable;
+      names = names_on text ts rest end old middle new (one_name text ts rest top.next old middle top.are top.adds) found.names;
       room = omega (arith, shorter, top.few, found.room);
       no_longer = omega (arith, shorter, found.no_longer);
     }
@@ -196,6 +201,7 @@ read_tree_variable text names ts rest v r n =
           (leads_on (leads_other ((one a_label ∣ one a_label_variable) · Subtrees) (one a_tree_variable) behind ts ok refl (next_is_no (λ k. same_sort a_label k || same_sort a_label_variable k) a_tree_variable ts rest refl next))
           (token a_tree_variable behind ts rest next));
       readable = readable_rest text ts rest n.0 n.1 r;
+      names = sign_names a_tree_variable text ts rest names refl next;
       room = omega (arith, shorter);
       no_longer = omega (arith, shorter);
     }
@@ -213,6 +219,7 @@ read_forest_variable text names ts rest v r n =
           (leads_on (leads_other (part tree) (one a_forest_variable) behind ts ok refl (next_is_no begins_tree a_forest_variable ts rest refl next))
           (token a_forest_variable behind ts rest next));
       readable = readable_rest text ts rest n.0 n.1 r;
+      names = sign_names a_forest_variable text ts rest names refl next;
       room = omega (arith, shorter);
       no_longer = omega (arith, shorter);
     }
@@ -228,6 +235,7 @@ read_item text old new ts rest p n found =
       reads = λ later k. reads_tree (found.reads later k);
       passes = λ behind f. leads_on (to_tree behind ts n) (found.passes behind f);
       readable = found.readable;
+      names = found.names;
       room = found.room;
       no_longer = found.no_longer;
     }

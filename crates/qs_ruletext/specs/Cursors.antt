@@ -18,6 +18,7 @@ use Rattle.qs_ruletext.specs.Grammar.{Part, rule, side, tree, list, item, cond, 
 use Rattle.qs_pattern.specs.declared.pattern.Head.{Head}
 use Rattle.qs_ruletext.specs.Reading.{IsVariableOf, IsHeadOf}
 use Rattle.qs_ruletext.specs.Rules.{KeepsNames}
+use Rattle.qs_ruletext.specs.Names.{AddsNameOf, NamesGrowUpTo}
 
 -- which sorts the parts may begin with
 abbrev pub begins_tree : Sort → Bool
@@ -95,6 +96,7 @@ pub record IsRead (form : Form Part) (sorts : List Sort) (Reads : List (List ℕ
   pub reads : (later : List (List ℕ)) → KeepsNames new later → Reads later
   pub passes : Passes form sorts tokens rest
   pub readable : Readable text rest
+  pub names : NamesGrowUpTo text tokens rest old new
   pub room : length new + length rest ≤ length old + length tokens
   pub no_longer : length rest ≤ length tokens
 
@@ -104,6 +106,7 @@ pub record IsHeadRead (text : List ℕ) (tokens : List Token) (head : Head) (res
   pub are : tokens ≡ next ∷ rest
   pub is_head : (later : List (List ℕ)) → KeepsNames new later → IsHeadOf later text next head
   pub readable : Readable text rest
+  pub adds : AddsNameOf text next old new
   pub few : length new ≤ length old + 1
 
 abbrev pub begins_head : Sort → Bool

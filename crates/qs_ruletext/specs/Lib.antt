@@ -2,6 +2,8 @@
 pub mod Grammar
 pub mod Reading
 pub mod Rules
+pub mod Names
+pub mod Endings
 pub mod Texts
 -- No public contract cites these: they are what the private functions of the reader promise.
 pub mod Cursors

@@ -1,12 +1,15 @@
 //! What holds of the definitions, whatever the program does.
 
-ghost use Rattle.std.specs.Prelude.{ℕ, List, length};
+ghost use Rattle.std.specs.Prelude.{◌≡◌, ℕ, ◌↔◌, List, ◌++◌, length, map, drop};
 ghost use Rattle.qs_lex.specs.declared.token.Token.{Token};
 ghost use Rattle.qs_lex.specs.Grammar.{part, repeated, IsWhole};
+ghost use Rattle.qs_tree.specs.Names.{AreDistinct};
 ghost use Rattle.qs_pattern.specs.Rules.{Rule};
 ghost use Rattle.qs_ruletext.specs.declared.raw.RawRule.{RawRule};
 ghost use Rattle.qs_ruletext.specs.Grammar.{rule, line};
-ghost use Rattle.qs_ruletext.specs.Rules.{ReadsRule, ReadsRules, IsWellRead};
+ghost use Rattle.qs_ruletext.specs.Rules.{ReadsRule, ReadsRules, IsWellRead, rule_of, NoRuleAt};
+ghost use Rattle.qs_ruletext.specs.Endings.{NoRuleIn};
+ghost use Rattle.qs_ruletext.specs.Names.{NamesGrow};
 
 /// What is read is whole by the grammar.
 pub fn what_is_read_is_whole()
@@ -14,8 +17,26 @@ pub fn what_is_read_is_whole()
     ensures rules { (names : List (List ℕ)) (text : List ℕ) (ts rest : List Token) (raws : List RawRule) → ReadsRules names text ts raws rest → IsWhole line (repeated (part rule)) ts rest }
 {}
 
+/// From the same names the same tokens lead to one list of names. No text stands in it twice if none did before. Where some
+/// tokens stand behind others, the names grow by the first and then by those behind them.
+pub fn names_grow_to_one()
+    ensures one { (text : List ℕ) (ts : List Token) (old new other : List (List ℕ)) → NamesGrow text ts old new → NamesGrow text ts old other → new ≡ other }
+    ensures distinct { (text : List ℕ) (ts : List Token) (old new : List (List ℕ)) → AreDistinct old → NamesGrow text ts old new → AreDistinct new }
+    ensures together { (text : List ℕ) (xs ys : List Token) (old middle new : List (List ℕ)) → NamesGrow text xs old middle → NamesGrow text ys middle new → NamesGrow text (xs ++ ys) old new }
+    ensures apart { (text : List ℕ) (xs ys : List Token) (old new : List (List ℕ)) → NamesGrow text (xs ++ ys) old new → (middle : List (List ℕ)) × NamesGrow text xs old middle × NamesGrow text ys middle new }
+{}
+
 /// The sides of a rule that was read are not empty and have no forest variable at their top, its variables stand at places
 /// of their classes, its condition joins at least two wherever it joins, and its labels are named.
 pub fn what_is_read_is_well_made()
     ensures { (names : List (List ℕ)) (text : List ℕ) (ts rest : List Token) (r : Rule) → ReadsRule names text ts r rest → IsWellRead (length names) r }
+{}
+
+/// Where no two names are equal, tokens are read in one way only: as one rule with one rest; and as the same rules, with
+/// the same bytes of their cells and the same rest, where both rests don't go on with a rule. No rule begins at a place
+/// exactly where the tokens from that place on don't go on with one.
+pub fn one_reading()
+    ensures rule { (names : List (List ℕ)) (text : List ℕ) (ts rest end : List Token) (r s : Rule) → AreDistinct names → ReadsRule names text ts r rest → ReadsRule names text ts s end → (r ≡ s) × (rest ≡ end) }
+    ensures rules { (names : List (List ℕ)) (text : List ℕ) (ts rest end : List Token) (raws others : List RawRule) → AreDistinct names → ReadsRules names text ts raws rest → ReadsRules names text ts others end → NoRuleIn rest → NoRuleIn end → (map rule_of raws ≡ map rule_of others) × (map (λ raw. raw.at.items) raws ≡ map (λ raw. raw.at.items) others) × (rest ≡ end) }
+    ensures place { (tokens : List Token) (at : ℕ) → NoRuleAt tokens at ↔ NoRuleIn (drop at tokens) }
 {}

@@ -26,3 +26,6 @@ pub use rules::read_rules;
 pub use sides::label_of;
 pub use std::alloc::AllocError as Memory;
 pub use writing::write_rule;
+
+#[cfg(test)]
+mod tests;

@@ -9,7 +9,8 @@ ghost use Rattle.qs_lex.specs.Nesting.{IsTooDeep};
 ghost use Rattle.qs_lex.specs.Grammar.{opening, plus, comma, the_word, slash, one, part, ◌·◌, optional, repeated, IsWhole};
 ghost use Rattle.qs_pattern.specs.Conditions.{condition_of};
 ghost use Rattle.qs_ruletext.specs.Grammar.{rule, cond, line};
-ghost use Rattle.qs_ruletext.specs.Rules.{KeepsNames, ReadsCondIfGiven, ReadsRawRule, ReadsRules, is_cell, cell_bytes, CannotGoOn, NoRuleAt, EndsFrom, rule_of, IsWellRead};
+ghost use Rattle.qs_ruletext.specs.Rules.{KeepsNames, ReadsCondIfGiven, ReadsRawRule, ReadsRules, is_cell, cell_bytes, CannotGoOn, NoRuleAt, EndsFrom, rule_of, IsWellRead, between};
+ghost use Rattle.qs_ruletext.specs.Names.{NamesGrow};
 ghost use Rattle.qs_ruletext.specs.Cursors.{Readable, IsRead, Ends, BeginsTree};
 
 use crate::conditions::condition;
@@ -109,8 +110,8 @@ fn text_end(halt: Halt, tokens: &[Token], rest: &[Token]) -> TextEnd
 ///
 /// `Syntax` comes exactly where a rule that was begun can't go on, with the place of the first token that doesn't fit, or the
 /// number of tokens where they end within a rule. `Memory` may come at any time. After every answer `names` keeps its texts
-/// and numbers, and may hold further texts: on `Ok` at most as many as the tokens that were read, and every label that was
-/// read is below `names.len()`.
+/// and numbers, and may hold further texts: on `Ok` exactly those of the labels that were read and that it didn't hold, each
+/// once, in the order of their first occurrence. Every label that was read is below `names.len()`.
 pub fn read_rules(
     alloc: Global,
     text: &str,
@@ -129,6 +130,7 @@ pub fn read_rules(
     ensures whole { IfOk result (λ found. IsWhole line (repeated (part rule)) (drop from tokens.now) (drop found.1 tokens.now)) }
     ensures place { IfOk result (λ found. (from ≤ found.1) × (found.1 ≤ length tokens.now)) }
     ensures behind { IfOk result (λ found. NoRuleAt tokens.now found.1) }
+    ensures names { IfOk result (λ found. NamesGrow text.now (between tokens.now from found.1) names.old names.new) }
     ensures few { IfOk result (λ found. length names.new + from ≤ length names.old + found.1) }
     ensures ends { IfErr result (EndsFrom tokens.now from) }
 {

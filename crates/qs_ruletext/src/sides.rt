@@ -7,6 +7,7 @@ ghost use Rattle.qs_pattern.specs.Patterns.{one_pattern, patterns};
 ghost use Rattle.qs_ruletext.specs.Grammar.{tree, list, item, side};
 ghost use Rattle.qs_ruletext.specs.Reading.{IsLabelOf, ReadsTree, ReadsSubtrees, ReadsList, ReadsItem, ReadsSide};
 ghost use Rattle.qs_ruletext.specs.Rules.{KeepsNames};
+ghost use Rattle.qs_ruletext.specs.Names.{AddsNameOf};
 ghost use Rattle.qs_ruletext.specs.Cursors.{Readable, IsRead, Ends, IsHeadRead, EndsAtHead};
 
 use crate::cursor::{Halt, Start, behind, expect, forest_variable, next, start_of, tree_variable};
@@ -27,6 +28,7 @@ pub fn label_of(
     requires room { length names.old + 1 < 2 ^ 32 }
     ensures keeps { KeepsNames names.old names.new }
     ensures label { IfOk result (λ label. (later : _) → KeepsNames names.new later → IsLabelOf later text.now token.now label) }
+    ensures adds { IfOk result (λ _. AddsNameOf text.now token.now names.old names.new) }
     ensures few { IfOk result (λ _. length names.new ≤ length names.old + 1) }
 {
     names.intern(&label_text(alloc, text, token)?)

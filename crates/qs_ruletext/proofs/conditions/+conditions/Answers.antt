@@ -70,7 +70,7 @@ conjunction-returns-in_err-next-clause-ends t c =
 
 pub conjunction-loop-after-preserved : goal.conjunction-loop-after-preserved
 conjunction-loop-after-preserved t c =
-    repeats_more conj neg (the_word Et) ListEnds _ _ _ c.args.text.now c.args.tokens.now c.loop-after.rest.now c.in-Some.after.now c.in_ok-next.end.now c.args.names.now c.loop-after.names c.negation-in-Some.new.names (refl, (refl, tt)) c.loop-after.invariant
+    repeats_more conj neg (the_word Et) ListEnds _ _ _ c.args.text.now c.args.tokens.now c.loop-after.rest.now c.in-Some.after.now c.in_ok-next.end.now c.args.names.now c.loop-after.names c.negation-in-Some.new.names (refl, (refl, tt)) refl c.loop-after.invariant
     c.in-Some.ensures.some c.in_ok-next.ensures.read c.negation-in-Some.ensures.keeps
     (λ later before r. conj_next later c.args.text.now c.args.tokens.now c.loop-after.rest.now c.in-Some.after.now c.in_ok-next.end.now _ c.loop-after.more.items c.push.new.self.items c.in_ok-next.next
     c.in_ok-push.ensures.items c.in-Some.ensures.some before r)
@@ -97,7 +97,7 @@ condition-returns-in_err-next-clause-ends t c =
 
 pub condition-loop-after-preserved : goal.condition-loop-after-preserved
 condition-loop-after-preserved t c =
-    repeats_more cond conj (the_word Ou) (the_word Et ∷ ListEnds) _ _ _ c.args.text.now c.args.tokens.now c.loop-after.rest.now c.in-Some.after.now c.in_ok-next.end.now c.args.names.now c.loop-after.names c.conjunction-in-Some.new.names (refl, (refl, (refl, tt))) c.loop-after.invariant
+    repeats_more cond conj (the_word Ou) (the_word Et ∷ ListEnds) _ _ _ c.args.text.now c.args.tokens.now c.loop-after.rest.now c.in-Some.after.now c.in_ok-next.end.now c.args.names.now c.loop-after.names c.conjunction-in-Some.new.names (refl, (refl, (refl, tt))) refl c.loop-after.invariant
     c.in-Some.ensures.some c.in_ok-next.ensures.read c.conjunction-in-Some.ensures.keeps
     (λ later before r. cond_next later c.args.text.now c.args.tokens.now c.loop-after.rest.now c.in-Some.after.now c.in_ok-next.end.now _ c.loop-after.more.items c.push.new.self.items c.in_ok-next.next
     c.in_ok-push.ensures.items c.in-Some.ensures.some before r)

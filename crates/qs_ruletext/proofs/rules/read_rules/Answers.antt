@@ -4,6 +4,7 @@ use Rattle.qs_lex.specs.Grammar.{part, repeated, IsWhole}
 use Rattle.qs_ruletext.specs.Grammar.{rule, line}
 use Rattle.qs_ruletext.specs.Rules.{ReadsRules}
 use Rattle.qs_ruletext.proofs.Told.{told_rules}
+use Rattle.qs_ruletext.proofs.Naming.{names_between}
 use Rattle.qs_ruletext.proofs.RulesRead.{none_so_far, one_more_so_far, rest_at, all_read, all_whole, no_rule_at}
 use Rattle.qs_ruletext.proofs.rules.read_rules.Goals as goal
 
@@ -41,3 +42,7 @@ pub returns-clause-made : goal.returns-clause-made
 returns-clause-made c =
     told_rules c.loop-alloc.names c.args.text.now (drop c.args.from c.args.tokens.now) c.loop-alloc.rest.now c.loop-alloc.rules.items
     (all_read c.args.text.now c.args.tokens.now c.args.from c.loop-alloc.rules.items c.loop-alloc.rest.now c.args.names.now c.loop-alloc.names c.loop-alloc.invariant c.loop-alloc.names (λ k t i. i))
+
+pub returns-clause-names : goal.returns-clause-names
+returns-clause-names c =
+    names_between c.args.text.now c.args.tokens.now c.loop-alloc.rest.now c.args.from c.args.names.now c.loop-alloc.names c.requires.within c.loop-alloc.invariant.names

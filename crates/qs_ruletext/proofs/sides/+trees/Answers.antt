@@ -41,7 +41,7 @@ list-returns-in_err-one-clause-ends t c =
 
 pub list-loop-after-preserved : goal.list-loop-after-preserved
 list-loop-after-preserved t c =
-    repeats_more list item comma (opening ∷ []) _ _ _ c.args.text.now c.args.tokens.now c.loop-after.rest.now c.in-Some.after.now c.in_ok-one.end.now c.args.names.now c.loop-after.names c.item-in-Some.new.names (refl, tt) c.loop-after.invariant
+    repeats_more list item comma (opening ∷ []) _ _ _ c.args.text.now c.args.tokens.now c.loop-after.rest.now c.in-Some.after.now c.in_ok-one.end.now c.args.names.now c.loop-after.names c.item-in-Some.new.names (refl, tt) refl c.loop-after.invariant
     c.in-Some.ensures.some c.in_ok-one.ensures.read c.item-in-Some.ensures.keeps
     (λ later before r. list_next later c.args.text.now c.args.tokens.now c.loop-after.rest.now c.in-Some.after.now c.in_ok-one.end.now (patterns c.loop-after.items.items) (one_pattern c.in_ok-one.one) (patterns c.push.new.self.items)
     (ap patterns c.in_ok-push.ensures.items ∙ patterns_push c.loop-after.items.items c.in_ok-one.one) c.in-Some.ensures.some before r)

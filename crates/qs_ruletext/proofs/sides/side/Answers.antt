@@ -25,7 +25,7 @@ returns-in_err-one-clause-ends c =
 
 pub loop-after-preserved : goal.loop-after-preserved
 loop-after-preserved c =
-    repeats_more side tree plus (opening ∷ []) _ _ _ c.args.text.now c.args.tokens.now c.loop-after.rest.now c.in-Some.after.now c.in_ok-one.end.now c.args.names.now c.loop-after.names c.tree-in-Some.new.names (refl, tt) c.loop-after.invariant
+    repeats_more side tree plus (opening ∷ []) _ _ _ c.args.text.now c.args.tokens.now c.loop-after.rest.now c.in-Some.after.now c.in_ok-one.end.now c.args.names.now c.loop-after.names c.tree-in-Some.new.names (refl, tt) refl c.loop-after.invariant
     c.in-Some.ensures.some c.in_ok-one.ensures.read c.tree-in-Some.ensures.keeps
     (λ later before r. side_next later c.args.text.now c.args.tokens.now c.loop-after.rest.now c.in-Some.after.now c.in_ok-one.end.now (patterns c.loop-after.trees.items) (one_pattern c.in_ok-one.one) (patterns c.push.new.self.items)
     (ap patterns c.in_ok-push.ensures.items ∙ patterns_push c.loop-after.trees.items c.in_ok-one.one) c.in-Some.ensures.some before r)
