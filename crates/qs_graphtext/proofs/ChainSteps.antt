@@ -1,20 +1,20 @@
 -- The steps of the readers of chains and graphs.
-use Rattle.std.proofs.Common.{◌≡◌, ℕ, suc, length-append, ◌+◌, ◌<◌, ◌≤◌, Bool, true, false, refl, sym, ◌∙◌, ap, subst, ⊎_elim, inl, inr, List, [], ◌∷◌, ◌++◌, length, append_assoc, append-nil, arith}
+use Rattle.std.proofs.Common.{◌≡◌, ℕ, suc, length-append, ◌+◌, refl, sym, ◌∙◌, ap, subst, ⊎_elim, inl, inr, List, [], ◌∷◌, ◌++◌, length, append_assoc, append-nil, arith}
 use Rattle.std.specs.Prelude.{◌↔◌}
 use Rattle.qs_lex.specs.declared.token.Token.{Token}
 use Rattle.qs_lex.specs.declared.token.Word.TheVariants.{Graphe, Fin}
-use Rattle.qs_lex.specs.Grammar.{Sort, a_label, a_node_mark, the_word, opening, comma, plus, stop, sort_of, IsOf, Form, one, part, ◌·◌, repeated}
-use Rattle.qs_lex.specs.Expecting.{first, starts, same_sort, NextIsNo, Refuse, BeginAll, AllWhole, Leads, Stops}
+use Rattle.qs_lex.specs.Grammar.{a_node_mark, the_word, opening, plus, stop, sort_of, Form, one, part, ◌·◌, repeated}
+use Rattle.qs_lex.specs.Expecting.{starts, same_sort, NextIsNo, BeginAll, AllWhole, Leads}
 use Rattle.qs_lex.proofs.Going.{leads_same, leads_on, leads_part, leads_sequence, leads_again}
 use Rattle.qs_tree.specs.Trees.{Tree}
 use Rattle.qs_ruletext.specs.declared.cursor.Halt.{Halt}
 use Rattle.qs_ruletext.specs.declared.cursor.Halt.TheVariants.{Syntax}
-use Rattle.qs_ruletext.specs.Rules.{KeepsNames}
 use Rattle.qs_ruletext.specs.Cursors.{IsNext}
+use Rattle.qs_ruletext.proofs.Naming.{names_on, sign_names}
 use Rattle.qs_graphtext.specs.WrittenChains.{WrittenChain}
 use Rattle.qs_graphtext.specs.Grammar.{Part, graph, chain, plain, line}
 use Rattle.qs_graphtext.specs.Reading.{ReadsPlain, ReadsRooted, reads_rooted, ReadsTrees, reads_trees, ReadsMoreTrees, no_more_trees, one_more_tree, ReadsChain, reads_chain, ReadsChains, reads_chains, ReadsMoreChains, no_more_chains, one_more_chain, ReadsGraph, reads_graph}
-use Rattle.qs_graphtext.specs.Readers.{table, Readable, Passes, Ends, IsRead, IsNextMark, NextIsMark, plains_with}
+use Rattle.qs_graphtext.specs.Readers.{table, Ends, IsRead, IsNextMark, NextIsMark, plains_with}
 use Rattle.qs_graphtext.proofs.Tables.{ok, next_is_no, not_at_end, token, readable_rest, next_length, ends_on, ends_here}
 use Rattle.qs_graphtext.proofs.Repeating.{ComesTo}
 
@@ -28,6 +28,7 @@ read_rooted text old new t ts us rest tree e found =
           subst (λ vs. ReadsRooted later text vs tree t.from rest) (sym e) (reads_rooted (subst (λ vs. ReadsPlain later text vs tree rest) e (found.reads later k)));
       passes = found.passes;
       readable = found.readable;
+      names = found.names;
       room = found.room;
       no_longer = found.no_longer;
     }
@@ -144,6 +145,10 @@ read_chain text old new ts inside end last rest from to trees at n found m k =
       passes = λ behind r.
           leads_on (to_stop text old new _ behind ts inside end last (next_mark ts from inside n) found (next_mark end to last m)) (token stop behind last rest k);
       readable = readable_rest text last rest k.0 k.1 (readable_rest text end last m.0 m.1 found.readable);
+      names =
+          names_on text ts inside rest old old new (sign_names a_node_mark text ts inside old refl (next_mark ts from inside n))
+          (names_on text inside end rest old new new found.names
+          (names_on text end last rest new new new (sign_names a_node_mark text end last new refl (next_mark end to last m)) (sign_names stop text last rest new refl k)));
       room = omega (arith, outer, inner, dot, found.room);
       no_longer = omega (arith, outer, inner, dot, found.no_longer);
     }
@@ -217,6 +222,9 @@ read_graph text old new ts inside end rest chains n found m =
           subst (λ us. ReadsGraph later text us chains rest) (sym n.1) (reads_graph n.2 (subst (λ us. ReadsChains later text inside chains us) m.1 (found.reads later keeps)) m.2);
       passes = λ behind r. leads_on (to_fin text old new _ behind ts inside end n found) (token (the_word Fin) behind end rest m);
       readable = readable_rest text end rest m.0 m.1 found.readable;
+      names =
+          names_on text ts inside rest old old new (sign_names (the_word Graphe) text ts inside old refl n)
+          (names_on text inside end rest old new new found.names (sign_names (the_word Fin) text end rest new refl m));
       room = omega (arith, outer, last, found.room);
       no_longer = omega (arith, outer, last, found.no_longer);
     }

@@ -1,5 +1,6 @@
 pub mod Tables
 pub mod Repeating
+pub mod Bytes
 pub mod Cells
 pub mod PlainSteps
 pub mod ChainSteps
@@ -11,3 +12,4 @@ pub mod TooMany
 pub mod Written
 pub mod GraphsOfChains
 pub mod TreesLaid
+pub mod OneReading

@@ -1,11 +1,9 @@
 -- The steps of the reader of trees.
-use Rattle.std.proofs.Common.{◌≡◌, ℕ, ◌+◌, ◌≤◌, Bool, true, false, refl, sym, ◌∙◌, ap, subst, ⊎_elim, List, [], ◌∷◌, ◌++◌, length, arith}
+use Rattle.std.proofs.Common.{◌≡◌, ℕ, ◌+◌, ◌≤◌, false, refl, sym, ◌∙◌, ap, subst, ⊎_elim, List, [], ◌∷◌, length, arith}
 use Rattle.qs_lex.specs.declared.token.Token.{Token}
-use Rattle.qs_lex.specs.declared.token.Kind.{Kind}
-use Rattle.qs_lex.specs.declared.token.Kind.TheVariants.{Bare, Quoted, Variable, Node, Word as a_word, Opening, Closing, Comma, Plus, Slash, Equals, Stop}
 use Rattle.qs_lex.specs.Tokens.{IsLabel}
-use Rattle.qs_lex.specs.Grammar.{Sort, a_label, opening, closing, comma, sort_of, IsOf, Form, one, part, ◌·◌, optional, repeated}
-use Rattle.qs_lex.specs.Expecting.{first, starts, same_sort, NextIsNo, Refuse, Leads, Stops}
+use Rattle.qs_lex.specs.Grammar.{a_label, opening, closing, comma, sort_of, IsOf, Form, one, part, ◌·◌, optional, repeated}
+use Rattle.qs_lex.specs.Expecting.{starts, same_sort, NextIsNo, Leads}
 use Rattle.qs_lex.proofs.Going.{leads_same, leads_on, leads_part, leads_sequence, leads_without, leads_with}
 use Rattle.qs_tree.specs.declared.cell.Label.{Label}
 use Rattle.qs_tree.specs.Trees.{Forest, no_tree, first_tree, Tree, join}
@@ -14,8 +12,10 @@ use Rattle.qs_ruletext.specs.declared.cursor.Halt.{Halt}
 use Rattle.qs_ruletext.specs.declared.cursor.Halt.TheVariants.{Syntax}
 use Rattle.qs_ruletext.specs.Reading.{IsLabelOf}
 use Rattle.qs_ruletext.specs.Rules.{KeepsNames}
+use Rattle.qs_ruletext.specs.Names.{AddsNameOf}
 use Rattle.qs_ruletext.specs.Cursors.{IsNext}
-use Rattle.qs_graphtext.specs.Grammar.{Part, graph, chain, plain, line}
+use Rattle.qs_ruletext.proofs.Naming.{no_names, names_on, one_name, sign_names}
+use Rattle.qs_graphtext.specs.Grammar.{Part, plain, line}
 use Rattle.qs_graphtext.specs.Reading.{ReadsPlain, reads_plain, ReadsSubtrees, no_parentheses, nothing_inside, plains_inside, ReadsPlains, reads_plains, ReadsMorePlains, no_more_plains, one_more_plain}
 use Rattle.qs_graphtext.specs.Readers.{table, Readable, Passes, Ends, IsRead, plains_with, in_parentheses}
 use Rattle.qs_graphtext.proofs.Tables.{ok, next_is_no, not_at_end, token, readable_rest, next_length, ends_on, ends_here}
@@ -67,6 +67,7 @@ read_no_subtrees text names ts r n =
       reads = λ later k. no_parentheses;
       passes = λ behind f. no_subtrees behind ts n;
       readable = r;
+      names = no_names text ts names;
       room = omega arith;
       no_longer = omega arith;
     }
@@ -82,6 +83,7 @@ read_nothing_inside text names ts inside rest r n m =
       reads = λ later k. subst (λ us. ReadsSubtrees later text us no_tree rest) (sym are) (nothing_inside n.2 m.2);
       passes = λ behind f. closed_at_once behind ts inside rest f.0 n m;
       readable = readable_rest text inside rest m.0 m.1 (readable_rest text ts inside n.0 n.1 r);
+      names = names_on text ts inside rest names names names (sign_names opening text ts inside names refl n) (sign_names closing text inside rest names refl m);
       room = omega (arith, outer, inner);
       no_longer = omega (arith, outer, inner);
     }
@@ -100,6 +102,7 @@ read_plains_inside text old new ts inside end rest kids n shut found m =
           subst (λ us. ReadsSubtrees later text us kids rest) (sym n.1) (plains_inside n.2 whole m.2);
       passes = λ behind f. closed behind ts inside end rest f.0 n shut found.passes m;
       readable = readable_rest text end rest m.0 m.1 found.readable;
+      names = names_on text ts inside rest old old new (sign_names opening text ts inside old refl n) (names_on text inside end rest old new new found.names (sign_names closing text end rest new refl m));
       room = omega (arith, outer, inner, found.room);
       no_longer = omega (arith, outer, inner, found.no_longer);
     }
@@ -130,16 +133,17 @@ after_label behind ts rest n =
 -- `of` gives the label in any names that keep the present ones
 pub read_node : (text : List ℕ) (old middle new : List (List ℕ)) (t : Token) (label : Label) (ts rest end : List Token) (kids : Forest)
     → ts ≡ t ∷ rest → IsLabel t
-    → ((later : List (List ℕ)) → KeepsNames middle later → IsLabelOf later text t label) → length middle ≤ length old + 1 → KeepsNames middle new
+    → ((later : List (List ℕ)) → KeepsNames middle later → IsLabelOf later text t label) → AddsNameOf text t old middle → length middle ≤ length old + 1 → KeepsNames middle new
     → IsRead (in_parentheses ∷ []) (opening ∷ []) (λ later. ReadsSubtrees later text rest kids end) text rest end middle new
     → IsRead (part plain ∷ []) (opening ∷ []) (λ later. ReadsPlain later text ts (record { root = label; subtrees = kids }) end) text ts end old new
-read_node text old middle new t label ts rest end kids e is of few keeps found =
+read_node text old middle new t label ts rest end kids e is of adds few keeps found =
     let shorter : length ts ≡ length rest + 1 = ap length e ∙ omega arith in
     record {
       reads = λ later k.
           subst (λ us. ReadsPlain later text us (record { root = label; subtrees = kids }) end) (sym e) (reads_plain (of later (λ j x i. k j x (keeps j x i))) (found.reads later k));
       passes = λ behind f. leads_on (after_label behind ts rest (t, e, label_sort t is)) (found.passes behind f);
       readable = found.readable;
+      names = names_on text ts rest end old middle new (one_name text ts rest t old middle e adds) found.names;
       room = omega (arith, shorter, few, found.room);
       no_longer = omega (arith, shorter, found.no_longer);
     }

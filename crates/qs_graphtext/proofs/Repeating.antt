@@ -1,15 +1,17 @@
 -- What holds between two turns of a loop that reads what may be repeated.
-use Rattle.std.proofs.Common.{◌≡◌, ℕ, ◌+◌, ◌≤◌, Bool, true, false, ◌||◌, refl, sym, ◌∙◌, ap, subst, List, [], ◌∷◌, ◌++◌, length, arith}
+use Rattle.std.proofs.Common.{◌≡◌, ℕ, ◌+◌, ◌≤◌, Bool, false, ◌||◌, refl, List, [], ◌∷◌, ◌++◌, length, arith}
 use Rattle.qs_lex.specs.declared.token.Token.{Token}
-use Rattle.qs_lex.specs.Grammar.{Sort, Form, one, part, ◌·◌, repeated}
-use Rattle.qs_lex.specs.Expecting.{nullable, first, same_sort, starts, NextIsNo, Refuse, Leads}
+use Rattle.qs_lex.specs.Grammar.{Sort, Form, one, ◌·◌, repeated}
+use Rattle.qs_lex.specs.Expecting.{nullable, first, starts, NextIsNo, Refuse, Leads}
 use Rattle.qs_lex.proofs.Going.{leads_on, leads_same, leads_sequence, leads_done, leads_again}
 use Rattle.qs_ruletext.specs.declared.cursor.Halt.{Halt}
 use Rattle.qs_ruletext.specs.Rules.{KeepsNames}
+use Rattle.qs_ruletext.specs.Names.{NamesGrowUpTo}
 use Rattle.qs_ruletext.specs.Cursors.{IsNext}
+use Rattle.qs_ruletext.proofs.Naming.{names_on}
 use Rattle.qs_graphtext.specs.Grammar.{Part, line}
 use Rattle.qs_graphtext.specs.Readers.{table, Readable, Ends, IsRead}
-use Rattle.qs_graphtext.proofs.Tables.{ok, next_is_no, not_at_end, token, next_length, ends_on}
+use Rattle.qs_graphtext.proofs.Tables.{ok, next_is_no, not_at_end, token, ends_on}
 
 -- the forms are read but for what may still be repeated; `Completes` says what that makes of it
 pub record Repeats (forms : List (Form Part)) (member : Form Part) (sorts : List Sort) (Completes : List (List ℕ) → Type 0) (text : List ℕ) (tokens rest : List Token) (old new : List (List ℕ)) : Type 0 where
@@ -17,6 +19,7 @@ pub record Repeats (forms : List (Form Part)) (member : Form Part) (sorts : List
   pub reads : (later : List (List ℕ)) → KeepsNames new later → Completes later
   pub passes : (behind : List (Form Part)) → Refuse table behind sorts → Leads line (forms ++ behind) tokens (repeated member ∷ behind) rest
   pub readable : Readable text rest
+  pub names : NamesGrowUpTo text tokens rest old new
   pub room : length new + length rest ≤ length old + length tokens
   pub no_longer : length rest ≤ length tokens
 
@@ -43,6 +46,7 @@ repeats_first m f s ks Reads Completes text ts rest old new d found keeps comple
       reads = λ later k. completes later (found.reads later k);
       passes = λ behind r. found.passes (repeated f ∷ behind) (refuse_more f behind ks d r.1);
       readable = found.readable;
+      names = found.names;
       room = found.room;
       no_longer = found.no_longer;
     }
@@ -60,16 +64,17 @@ behind_sign s g rest after n =
     (token s (g ∷ repeated (one s · g) ∷ behind) rest after n))
 
 pub repeats_more : (fs : List (Form Part)) (f g : Form Part) (s : Sort) (ks : List Sort) (Reads Before Completes : List (List ℕ) → Type 0) (text : List ℕ) (ts rest after end : List Token) (old middle new : List (List ℕ))
-    → Shuns f ks → Repeats fs f (s ∷ ks) Before text ts rest old middle → ComesTo f g s rest after → length after ≤ length rest
+    → Shuns f ks → Repeats fs f (s ∷ ks) Before text ts rest old middle → ComesTo f g s rest after → length after ≤ length rest → NamesGrowUpTo text rest after middle middle
     → IsRead (g ∷ []) ks Reads text after end middle new → KeepsNames middle new
     → ((later : List (List ℕ)) → Before later → Reads later → Completes later)
     → Repeats fs f (s ∷ ks) Completes text ts end old new
-repeats_more fs f g s ks Reads Before Completes text ts rest after end old middle new d so_far comes shorter found keeps completes =
+repeats_more fs f g s ks Reads Before Completes text ts rest after end old middle new d so_far comes shorter between found keeps completes =
     record {
       keeps = λ k t e. keeps k t (so_far.keeps k t e);
       reads = λ later k. completes later (so_far.reads later (λ j t e. k j t (keeps j t e))) (found.reads later k);
       passes = λ behind r. leads_on (so_far.passes behind r) (leads_on (comes behind r.0) (found.passes (repeated f ∷ behind) (refuse_more f behind ks d r.1)));
       readable = found.readable;
+      names = names_on text ts rest end old middle new so_far.names (names_on text rest after end middle middle new between found.names);
       room = omega (arith, shorter, found.room, so_far.room);
       no_longer = omega (arith, shorter, found.no_longer, so_far.no_longer);
     }
@@ -83,6 +88,7 @@ repeats_done fs f s ks Reads Completes text ts rest old new some all n reads =
       reads = λ later k. reads later (all.reads later k);
       passes = λ behind r. leads_on (all.passes behind r) (leads_done f behind rest ok some n);
       readable = all.readable;
+      names = all.names;
       room = all.room;
       no_longer = all.no_longer;
     }

@@ -10,6 +10,7 @@ use Rattle.qs_lex.specs.Expecting.{same_sort, Refuse, Leads, Stops}
 use Rattle.qs_ruletext.specs.declared.cursor.Halt.{Halt}
 use Rattle.qs_ruletext.specs.declared.cursor.Halt.TheVariants.{Syntax, Memory}
 use Rattle.qs_ruletext.specs.Rules.{KeepsNames}
+use Rattle.qs_ruletext.specs.Names.{NamesGrowUpTo}
 use Rattle.qs_graphtext.specs.Grammar.{Part, graph, chain, plain, line}
 
 -- which sorts the parts may begin with
@@ -42,6 +43,7 @@ pub record IsRead (forms : List (Form Part)) (sorts : List Sort) (Reads : List (
   pub reads : (later : List (List ℕ)) → KeepsNames new later → Reads later
   pub passes : Passes forms sorts tokens rest
   pub readable : Readable text rest
+  pub names : NamesGrowUpTo text tokens rest old new
   pub room : length new + length rest ≤ length old + length tokens
   pub no_longer : length rest ≤ length tokens
 

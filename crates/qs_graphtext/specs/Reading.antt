@@ -79,3 +79,7 @@ pub data ReadsGraph (names : List (List ℕ)) (text : List ℕ) : List Token →
 -- each label in the trees of these chains is one of the first n
 abbrev pub AreNamed : ℕ → List WrittenChain → Type 0
 AreNamed n chains = (chain : WrittenChain) → chain ∈ chains → (tree : Tree) → tree ∈ chain.trees → IsNamed n tree
+
+-- the byte is that at which one of these tokens begins
+abbrev pub IsByteOf : List Token → ℕ → Type 0
+IsByteOf tokens byte = (t : Token) × (t ∈ tokens) × (t.from ≡ byte)

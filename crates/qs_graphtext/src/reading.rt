@@ -5,7 +5,8 @@ ghost use Rattle.qs_lex.specs.Tokens.{AreTokensOf};
 ghost use Rattle.qs_lex.specs.Nesting.{IsTooDeep};
 ghost use Rattle.qs_lex.specs.Grammar.{a_node_mark, opening, plus, part, repeated};
 ghost use Rattle.qs_lex.specs.Expecting.{same_sort, NextIsNo};
-ghost use Rattle.qs_ruletext.specs.Rules.{KeepsNames};
+ghost use Rattle.qs_ruletext.specs.Rules.{KeepsNames, between};
+ghost use Rattle.qs_ruletext.specs.Names.{NamesGrow};
 ghost use Rattle.qs_graphtext.specs.Grammar.{chain, graph};
 ghost use Rattle.qs_graphtext.specs.Reading.{ReadsTrees, ReadsChain, ReadsChains, ReadsGraph, AreNamed};
 ghost use Rattle.qs_graphtext.specs.Refusals.{EndsFrom};
@@ -145,8 +146,8 @@ fn graph<'t>(
 ///
 /// `Ok` gives the chains, of which there is at least one, and the place behind `-FIN-`. `Syntax` comes with the first
 /// place at which the tokens from `from` on can't go on to a graph, which may be the number of tokens. `Memory` may come
-/// at any time. After every answer the labels of `names` keep their numbers, and there may be new ones: on `Ok` at most
-/// one for each token that was read.
+/// at any time. After every answer the labels of `names` keep their numbers, and there may be new ones: on `Ok` exactly
+/// those that were read and weren't there, each once, in the order of their first occurrence.
 pub fn read_chains(
     alloc: Global,
     text: &str,
@@ -165,6 +166,7 @@ pub fn read_chains(
 
     // The labels.
     ensures keeps { KeepsNames names.old names.new }
+    ensures names { IfOk result (λ found. NamesGrow text.now (between tokens.now from found.1) names.old names.new) }
     ensures few { IfOk result (λ found. length names.new + from ≤ length names.old + found.1) }
     ensures named { IfOk result (λ found. AreNamed (length names.new) found.0.items) }
 {

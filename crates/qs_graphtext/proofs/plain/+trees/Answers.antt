@@ -1,12 +1,11 @@
-use Rattle.std.proofs.Common.{rules, ◌≡◌, ℕ, ◌+◌, ◌≤◌, refl, sym, ap, ◌∙◌, [], ◌∷◌, ◌++◌, length, List, arith, append-nil}
-use Rattle.qs_lex.specs.declared.token.Token.{Token}
-use Rattle.qs_lex.specs.Grammar.{opening, closing, comma, one, part, ◌·◌}
-use Rattle.qs_tree.specs.Trees.{Forest, no_tree, first_tree, join}
+use Rattle.std.proofs.Common.{refl, sym, ◌∙◌, [], ◌∷◌, arith, append-nil}
+use Rattle.qs_lex.specs.Grammar.{opening, comma, one, part, ◌·◌}
+use Rattle.qs_tree.specs.Trees.{no_tree, first_tree, join}
+use Rattle.qs_ruletext.proofs.Naming.{sign_names}
 use Rattle.qs_graphtext.specs.Grammar.{plain}
-use Rattle.qs_graphtext.specs.Reading.{ReadsPlain, ReadsPlains, ReadsMorePlains}
 use Rattle.qs_graphtext.specs.Readers.{Ends, plains_with, in_parentheses}
 use Rattle.qs_graphtext.proofs.Tables.{hands_on, next_length}
-use Rattle.qs_graphtext.proofs.Repeating.{repeats_first, repeats_more, repeats_done, ends_in_first, ends_in_next, behind_sign}
+use Rattle.qs_graphtext.proofs.Repeating.{repeats_first, repeats_more, repeats_done, ends_in_next, behind_sign}
 use Rattle.qs_graphtext.proofs.Cells.{first_cells, more_cells, root_cells}
 use Rattle.qs_graphtext.proofs.PlainSteps.{read_no_subtrees, read_nothing_inside, read_plains_inside, ends_in_plains, ends_unclosed, read_node, ends_in_subtrees, ends_at_plain, one_tree, one_more, all_read}
 use Rattle.qs_graphtext.proofs.plain.+trees.Goals as goal
@@ -27,7 +26,7 @@ plain-returns-clause-read t c =
       record { root = c.in_ok-label.label; subtrees = kids },
       root_cells c.args.cells.now.items c.push.new.self.items c.subtrees.new.cells.items _ c.in_ok-label.label kids c.len-root.result c.len.result c.in_ok-push.ensures.items put (c.len-root.ensures ∙ c.args.cells.now.ok.0) (c.len.ensures ∙ c.subtrees.new.cells.ok.0),
       read_node c.args.text.now c.args.names.now c.label_of.new.names c.subtrees.new.names c.in_ok-first.first.now c.in_ok-label.label c.args.tokens.now c.in_ok-first.rest.now c.in_ok-end.end.now kids
-          c.in_ok-first.ensures.next c.in_ok-first.ensures.label c.in_ok-label.ensures.label c.in_ok-label.ensures.few c.in_ok-end.ensures.keeps found,
+          c.in_ok-first.ensures.next c.in_ok-first.ensures.label c.in_ok-label.ensures.label c.in_ok-label.ensures.adds c.in_ok-label.ensures.few c.in_ok-end.ensures.keeps found,
     )
 
 pub plains-loop-after-init : goal.plains-loop-after-init
@@ -54,7 +53,7 @@ plains-loop-after-preserved t c =
       join so_far (first_tree tree.root tree.subtrees no_tree),
       more_cells c.args.cells.now.items c.loop-after.cells.items c.plain-in-Some.new.cells.items so_far tree before put,
       repeats_more (plains_with comma) (one comma · part plain) (part plain) comma (opening ∷ []) _ _ _ c.args.text.now c.args.tokens.now c.loop-after.rest.now c.in-Some.after.now c.in_ok-rest-2.rest.now c.args.names.now c.loop-after.names c.plain-in-Some.new.names
-          (refl, tt) all (behind_sign comma (part plain) c.loop-after.rest.now c.in-Some.after.now c.in-Some.ensures.some) (omega (arith, shorter)) found c.in_ok-rest-2.ensures.keeps
+          (refl, tt) all (behind_sign comma (part plain) c.loop-after.rest.now c.in-Some.after.now c.in-Some.ensures.some) (omega (arith, shorter)) (sign_names comma c.args.text.now c.loop-after.rest.now c.in-Some.after.now c.loop-after.names refl c.in-Some.ensures.some) found c.in_ok-rest-2.ensures.keeps
           (λ later b r. one_more c.args.text.now c.args.tokens.now c.loop-after.rest.now c.in-Some.after.now c.in_ok-rest-2.rest.now so_far tree later c.in-Some.ensures.some b r),
     )
 

@@ -1,5 +1,6 @@
-use Rattle.std.proofs.Common.{◌≡◌, ℕ, ◌+◌, ◌≤◌, refl, sym, ap, ◌∙◌, [], ◌∷◌, ◌++◌, length, List, arith}
+use Rattle.std.proofs.Common.{refl, [], ◌∷◌, arith}
 use Rattle.qs_lex.specs.Grammar.{a_node_mark, part}
+use Rattle.qs_ruletext.proofs.Naming.{no_names}
 use Rattle.qs_graphtext.specs.Grammar.{chain}
 use Rattle.qs_graphtext.specs.Readers.{Ends}
 use Rattle.qs_graphtext.proofs.Tables.{hands_on}
@@ -22,7 +23,7 @@ returns-in_err-next-clause-ends c =
 pub loop-alloc-preserved : goal.loop-alloc-preserved
 loop-alloc-preserved c =
     repeats_more Chains (part chain) (part chain) a_node_mark [] _ _ _ c.args.text.now c.args.tokens.now c.loop-alloc.rest.now c.loop-alloc.rest.now c.in_ok-next.end.now c.args.names.now c.loop-alloc.names c.chain-in-loop-alloc.new.names
-    tt c.loop-alloc.invariant (at_mark c.loop-alloc.rest.now (c.is_at_mark.ensures.yes c.loop-alloc-test.true)) (omega arith) c.in_ok-next.ensures.read c.in_ok-next.ensures.keeps
+    tt c.loop-alloc.invariant (at_mark c.loop-alloc.rest.now (c.is_at_mark.ensures.yes c.loop-alloc-test.true)) (omega arith) (no_names c.args.text.now c.loop-alloc.rest.now c.loop-alloc.names) c.in_ok-next.ensures.read c.in_ok-next.ensures.keeps
     (λ later b r. more_chains c.args.text.now c.args.tokens.now c.loop-alloc.rest.now c.in_ok-next.end.now c.in_ok-next.next c.loop-alloc.chains.items c.push.new.self.items later c.in_ok-push.ensures.items b r)
 
 pub returns-clause-read : goal.returns-clause-read

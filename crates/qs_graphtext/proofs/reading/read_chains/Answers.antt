@@ -1,6 +1,7 @@
-use Rattle.std.proofs.Common.{◌≡◌, ◌-◌, sym, subst, length, drop, take, List}
+use Rattle.std.proofs.Common.{sym, subst, drop}
 use Rattle.std.proofs.lemmas.List.{take_rest}
-use Rattle.qs_lex.specs.declared.token.Token.{Token}
+use Rattle.qs_ruletext.specs.Names.{NamesGrowUpTo}
+use Rattle.qs_ruletext.proofs.Naming.{names_between}
 use Rattle.qs_graphtext.specs.Reading.{ReadsGraph}
 use Rattle.qs_graphtext.specs.Readers.{Readable}
 use Rattle.qs_graphtext.proofs.Places.{readable, rest_of, stops_at, left_within, cannot_go_on, graph_named}
@@ -29,3 +30,8 @@ pub returns-in-Err-Syntax-clause-ends : goal.returns-in-Err-Syntax-clause-ends
 returns-in-Err-Syntax-clause-ends c =
     cannot_go_on c.args.tokens.now c.args.from c.in-Err-Syntax.left c.requires.within
     (stops_at c.args.tokens.now _ c.args.from c.in-Err-Syntax.left c.in-Err-Syntax.field-0 c.in-Err-Syntax.field-0-is (take_rest c.args.tokens.now c.args.from) c.in-Err-Syntax.ensures.ends)
+
+pub returns-in-Ok-clause-names : goal.returns-in-Ok-clause-names
+returns-in-Ok-clause-names c =
+    names_between c.args.text.now c.args.tokens.now c.in-Ok.rest.now c.args.from c.args.names.now c.graph.new.names c.requires.within
+    (subst (λ us. NamesGrowUpTo c.args.text.now us c.in-Ok.rest.now c.args.names.now c.graph.new.names) (take_rest c.args.tokens.now c.args.from) c.in-Ok.ensures.read.names)

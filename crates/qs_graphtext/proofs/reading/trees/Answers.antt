@@ -1,5 +1,6 @@
-use Rattle.std.proofs.Common.{◌≡◌, ℕ, ◌+◌, ◌≤◌, refl, sym, ap, ◌∙◌, [], ◌∷◌, ◌++◌, length, List, arith}
+use Rattle.std.proofs.Common.{refl, [], ◌∷◌, arith}
 use Rattle.qs_lex.specs.Grammar.{opening, plus, one, part, ◌·◌}
+use Rattle.qs_ruletext.proofs.Naming.{sign_names}
 use Rattle.qs_graphtext.specs.Grammar.{plain}
 use Rattle.qs_graphtext.specs.Readers.{Ends, plains_with}
 use Rattle.qs_graphtext.proofs.Tables.{hands_on, next_length}
@@ -23,7 +24,7 @@ pub loop-after-preserved : goal.loop-after-preserved
 loop-after-preserved c =
     let shorter = next_length plus c.loop-after.rest.now c.in-Some.after.now c.in-Some.ensures.some in
     repeats_more (plains_with plus) (one plus · part plain) (part plain) plus (opening ∷ []) _ _ _ c.args.text.now c.args.tokens.now c.loop-after.rest.now c.in-Some.after.now c.in_ok-tree.end.now c.args.names.now c.loop-after.names c.rooted-in-Some.new.names
-    (refl, tt) c.loop-after.invariant (behind_sign plus (part plain) c.loop-after.rest.now c.in-Some.after.now c.in-Some.ensures.some) (omega (arith, shorter)) c.in_ok-tree.ensures.read c.in_ok-tree.ensures.keeps
+    (refl, tt) c.loop-after.invariant (behind_sign plus (part plain) c.loop-after.rest.now c.in-Some.after.now c.in-Some.ensures.some) (omega (arith, shorter)) (sign_names plus c.args.text.now c.loop-after.rest.now c.in-Some.after.now c.loop-after.names refl c.in-Some.ensures.some) c.in_ok-tree.ensures.read c.in_ok-tree.ensures.keeps
     (λ later b r. one_more c.args.text.now c.args.tokens.now c.loop-after.rest.now c.in-Some.after.now c.in_ok-tree.end.now c.in_ok-tree.tree c.in_ok-tree.byte c.loop-after.trees.items c.push.new.self.items c.loop-after.at.items c.push-in-Some.new.self.items later c.in_ok-push.ensures.items c.in_ok-push-2.ensures.items c.in-Some.ensures.some b r)
 
 pub returns-clause-read : goal.returns-clause-read
