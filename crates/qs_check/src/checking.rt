@@ -11,7 +11,7 @@ use crate::cells::{cells_of, cells_of_rule};
 use qs_lex::Cause;
 use qs_pattern::{Rule, written_variables};
 use qs_ruletext::RawRule;
-use std::alloc::{AllocError, Global};
+use std::alloc::{AllocError, AllocFailed, Global};
 
 /// Why `check` gives no rule.
 #[derive(Clone, Copy, Debug, PartialEq, Eq)]
@@ -29,6 +29,17 @@ impl From<AllocError> for CheckEnd {
     ghost from_gives = { λ _ e. e ≡ Memory };
 
     fn from(_: AllocError) -> CheckEnd {
+        CheckEnd::Memory
+    }
+}
+
+impl<T: Drop> From<AllocFailed<T>> for CheckEnd {
+    ghost use Rattle.std.specs.Prelude.{◌≡◌};
+    ghost use Rattle.qs_check.specs.declared.checking.CheckEnd.TheVariants.{Memory};
+
+    ghost from_gives = { λ _ e. e ≡ Memory };
+
+    fn from(_: AllocFailed<T>) -> CheckEnd {
         CheckEnd::Memory
     }
 }

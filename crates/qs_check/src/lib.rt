@@ -11,3 +11,5 @@ pub use std::alloc::AllocError as Memory;
 
 #[cfg(test)]
 mod tests;
+#[cfg(test)]
+mod text_tests;
