@@ -1,0 +1,19 @@
+-- Reading.
+pub mod Tables
+pub mod Steps
+pub mod Naming
+pub mod Systems
+pub mod Places
+pub mod Told
+-- Checking, and what a written deck means.
+pub mod CheckSteps
+pub mod Borders
+pub mod WhatIsRead
+pub mod Meanings
+-- Writing.
+pub mod Errors
+-- That there is one meaning or one refusal.
+pub mod Fronts
+pub mod WholeDecks
+pub mod OneDeck
+pub mod OneFault

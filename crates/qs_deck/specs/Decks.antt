@@ -1,0 +1,54 @@
+-- Accepted decks: the grammars and the graph that a text means.
+use Rattle.std.specs.Prelude.{◌≡◌, ℕ, List, [], map}
+use Rattle.std.specs.Str.{IsUtf8}
+use Rattle.qs_lex.specs.declared.token.Token.{Token}
+use Rattle.qs_lex.specs.Tokens.{AreTokensOf}
+use Rattle.qs_lex.specs.Nesting.{IsTooDeep}
+use Rattle.qs_tree.specs.declared.cell.Label.{Label}
+use Rattle.qs_pattern.specs.Rules.{Rule}
+use Rattle.qs_ruletext.specs.Rules.{rule_of}
+use Rattle.qs_ruletext.specs.Names.{NamesGrow}
+use Rattle.qs_graph.specs.Graphs.{QGraph, IsValid}
+use Rattle.qs_graphtext.specs.GraphOfChains.{AreFew, graph_of}
+use Rattle.qs_deck.specs.declared.written.WrittenSystem.{WrittenSystem}
+use Rattle.qs_deck.specs.declared.written.WrittenDeck.{WrittenDeck}
+use Rattle.qs_deck.specs.declared.system.System.{System}
+use Rattle.qs_deck.specs.Reading.{ReadsDeck}
+use Rattle.qs_deck.specs.Checks.{IsChecked}
+
+-- A grammar is a name and a list of rules.
+pub record Grammar : Type 0 where
+  pub name : Label
+  pub rules : List Rule
+
+-- The grammar that a system is, and the grammar that a written one means.
+abbrev pub grammar_of : System → Grammar
+grammar_of system = record { name = system.name; rules = system.rules.items }
+
+abbrev pub meaning_of : WrittenSystem → Grammar
+meaning_of system = record { name = system.name; rules = map rule_of system.rules.items }
+
+-- The text is UTF-8, these are its tokens, and at most 1,000 parentheses are open at a time.
+pub record HasTokens (text : List ℕ) (tokens : List Token) : Type 0 where
+  pub utf8 : IsUtf8 text
+  pub are_tokens : AreTokensOf text tokens
+  pub shallow : (index : ℕ) → IsTooDeep tokens index → ⊥
+
+-- The text has these tokens, and they are this written deck. Its names are the texts of its labels, each once, in the order in
+-- which they occur first.
+pub record IsWritten (text : List ℕ) (names : List (List ℕ)) (deck : WrittenDeck) : Type 0 where
+  pub tokens : List Token
+  pub has_tokens : HasTokens text tokens
+  pub reads : ReadsDeck names text tokens deck []
+  pub names_are : NamesGrow text tokens [] names
+
+-- The text is accepted, and means these grammars and this graph, with these names for the labels: it is a written deck that
+-- passes the checks, and whose chains make a valid graph of at most 65,536 arcs.
+pub record IsDeckOf (text : List ℕ) (names : List (List ℕ)) (grammars : List Grammar) (graph : QGraph) : Type 0 where
+  pub written : WrittenDeck
+  pub is_written : IsWritten text names written
+  pub checked : IsChecked written
+  pub few : AreFew written.chains.items
+  pub valid : IsValid graph
+  pub grammars_are : grammars ≡ map meaning_of written.systems.items
+  pub graph_is : graph ≡ graph_of written.chains.items

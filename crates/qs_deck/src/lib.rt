@@ -1,0 +1,26 @@
+//! Decks: grammars and a Q-graph, read from a text and written in canonical spelling.
+//!
+//! ```text
+//! deck   = system { system } graph
+//! system = -SYSTEME- label "." { rule }
+//! ```
+#![tactic(auto)]
+
+mod checking;
+mod deck;
+mod decks;
+pub mod laws;
+mod reading;
+mod system;
+mod writing;
+mod written;
+
+pub use deck::{Deck, DeckEnd};
+pub use decks::read_deck;
+pub use std::alloc::AllocError as Memory;
+pub use system::System;
+pub use writing::write_deck;
+pub use written::{WrittenDeck, WrittenSystem};
+
+#[cfg(test)]
+mod reading_tests;
