@@ -1,37 +1,68 @@
--- What is said of the bytes that were read and of the status, from what the calls of a run say.
-use Rattle.std.proofs.Common.{◌≡◌, ℕ, List, ◌++◌, Option, Some, None, sym, ap, ◌∙◌, subst, inl, inr}
-use Rattle.std.specs.Io.KnownBytes.{IsAtEnd, append_known, prepend_known}
-use Rattle.std.proofs.lemmas.List.{append-nil}
-use Rattle.std.proofs.lemmas.Option.{none-some, same_Some}
-use Rattle.qs_clean.specs.Cascades.{Ending, all_done, by_limit}
+-- What is delivered of a deck is what is defined for its text.
+use Rattle.std.proofs.Common.{◌≡◌, ℕ, List, Option, Global, refl, sym, subst, inl, inr}
+use Rattle.std.specs.Prelude.{Result, Ok, Err, IfOk}
+use Rattle.std.specs.declared.vec.Vec.{Vec}
+use Rattle.qs_graph.specs.Graphs.{QGraph}
+use Rattle.qs_graphtext.specs.Texts.{graph_text}
+use Rattle.qs_deck.specs.Decks.{Grammar, IsDeckOf}
+use Rattle.qs_deck.specs.Texts.{deck_text}
+use Rattle.qsys.specs.declared.job.Command.{Command}
+use Rattle.qsys.specs.declared.job.Command.TheVariants as command
+use Rattle.qsys.specs.declared.job.Job.{Job}
 use Rattle.qsys.specs.declared.status.Status.{Status}
-use Rattle.qsys.specs.Defined.{IsDefined, status_of}
-use Rattle.qsys.specs.Answers.{EndsAsDefined}
+use Rattle.qsys.specs.declared.status.Status.TheVariants.{Done}
+use Rattle.qsys.specs.Defined.{IsDefined, IsDone, status_of}
+use Rattle.qsys.specs.Cascading.{Delivers, DeliversCascade, IsAnswered, IsWritten}
 
--- a text that was read to its end is all that was left
-pub all_read : (old new : Option (List ℕ)) (bytes text : List ℕ) → old ≡ Some bytes → old ≡ prepend_known text new → IsAtEnd new → text ≡ bytes
-all_read old None bytes text told read at_end = absurd (none-some bytes (sym read ∙ told))
-all_read old (Some rest) bytes text told read at_end =
-    let is : text ++ rest ≡ bytes = same_Some _ _ (sym read ∙ told) in
-    sym (append-nil text) ∙ ap (λ (end : List ℕ). text ++ end) (sym at_end) ∙ is
+-- the blocks of the cascade of a deck are what is defined for its text
+pub cascade_defined : (job : Job) (bytes : List ℕ) (names : List (List ℕ)) (grammars : List Grammar) (graph : QGraph) (old new : Option (List ℕ)) (answer : Status)
+    → job.command ≡ command.Run → IsDeckOf bytes names grammars graph → DeliversCascade job.limit names graph grammars old new answer
+    → IsAnswered job bytes old new answer
+cascade_defined job bytes names grammars graph old new answer run deck d =
+    inr (record {
+      text = d.text;
+      status = status_of d.ending;
+      defined =
+          inr (record {
+            names = names;
+            grammars = grammars;
+            graph = graph;
+            deck = deck;
+            done =
+                subst (λ (which : Command). IsDone which job.limit names grammars graph d.text (status_of d.ending)) (sym run)
+                (record { ending = d.ending; outcome = d.outcome; status_is = refl });
+          });
+      delivered = d.delivered;
+    })
 
--- so what is defined for the one is defined for the other
-pub defined_for : (L : ℕ) (old new : Option (List ℕ)) (bytes read text : List ℕ) (status : Status) → old ≡ Some bytes → old ≡ prepend_known read new → IsAtEnd new
-    → (lent : List ℕ) → lent ≡ read → IsDefined L lent text status → IsDefined L bytes text status
-defined_for L old new bytes read text status told is at_end lent same defined =
-    subst (λ (b : List ℕ). IsDefined L b text status) (same ∙ all_read old new bytes read told is at_end) defined
+-- a deck that is checked, and its graph
+pub check_defined : (job : Job) (bytes : List ℕ) (names : List (List ℕ)) (grammars : List Grammar) (graph : QGraph) → job.command ≡ command.Check → IsDeckOf bytes names grammars graph
+    → IsDefined job bytes (deck_text names grammars graph) Done
+check_defined job bytes names grammars graph check deck =
+    inr (record {
+      names = names;
+      grammars = grammars;
+      graph = graph;
+      deck = deck;
+      done =
+          subst (λ (which : Command). IsDone which job.limit names grammars graph (deck_text names grammars graph) Done) (sym check)
+          (record { text_is = refl; status_is = refl });
+    })
 
--- a status with which a text is defined is one of three
-by_ending : (L : ℕ) (bytes : List ℕ) (old new : Option (List ℕ)) (text : List ℕ) (e : Ending) → IsDefined L bytes text (status_of e) → new ≡ append_known old text
-    → EndsAsDefined L bytes old new (status_of e)
-by_ending L bytes old new text all_done defined written = record { text = text; defined = defined; written = written }
-by_ending L bytes old new text by_limit defined written = record { text = text; defined = defined; written = written }
+pub graph_defined : (job : Job) (bytes : List ℕ) (names : List (List ℕ)) (grammars : List Grammar) (graph : QGraph) → job.command ≡ command.Graph → IsDeckOf bytes names grammars graph
+    → IsDefined job bytes (graph_text names graph) Done
+graph_defined job bytes names grammars graph drawn deck =
+    inr (record {
+      names = names;
+      grammars = grammars;
+      graph = graph;
+      deck = deck;
+      done = subst (λ (which : Command). IsDone which job.limit names grammars graph (graph_text names graph) Done) (sym drawn) (record { text_is = refl; status_is = refl });
+    })
 
-pub ends : (L : ℕ) (bytes : List ℕ) (old new : Option (List ℕ)) (text : List ℕ) (status : Status) → IsDefined L bytes text status → new ≡ append_known old text
-    → EndsAsDefined L bytes old new status
-ends L bytes old new text status (inl r) written =
-    let P : Status → Type 0 = λ s. IsDefined L bytes text s → EndsAsDefined L bytes old new s in
-    subst P (sym r.status_is) (λ defined. record { text = text; defined = defined; written = written }) (inl r)
-ends L bytes old new text status (inr r) written =
-    let P : Status → Type 0 = λ s. IsDefined L bytes text s → EndsAsDefined L bytes old new s in
-    subst P (sym r.status_is) (λ defined. by_ending L bytes old new text r.ending defined written) (inr r)
+-- a text that is defined and was written
+pub written_defined : {E : Type 0} (job : Job) (bytes : List ℕ) (old new : Option (List ℕ)) (answer : Status) (text : List ℕ) (status : Status) → IsDefined job bytes text status
+    → (made : Result (Vec ℕ Global) E) → IfOk made (λ t. t.items ≡ text) → IsWritten made old new status answer → IsAnswered job bytes old new answer
+written_defined job bytes old new answer text status defined (Ok t) same is =
+    inr (record { text = text; status = status; defined = defined; delivered = subst (λ (b : List ℕ). Delivers old new b status answer) same is })
+written_defined job bytes old new answer text status defined (Err e) same is = inl is

@@ -4,40 +4,41 @@ use Rattle.std.specs.Prelude.{◌≡◌, ◌⊎◌, ℕ, ◌<◌, List, length, 
 use Rattle.std.specs.Io.KnownBytes.{append_known}
 use Rattle.qs_io.specs.declared.transfer.TheConstants.{MAX_TEXT_BYTES}
 use Rattle.qs_io.specs.Devices.{AppendsPrefix}
+use Rattle.qsys.specs.declared.job.Job.{Job}
 use Rattle.qsys.specs.declared.status.Status.{Status}
 use Rattle.qsys.specs.declared.status.Status.TheVariants.{Done, Usage, Refused, Limit, ReadFault, TooLong, WriteFault, Memory}
 use Rattle.qsys.specs.Defined.{IsDefined}
 
 -- The whole text that is defined for these bytes, with this status, was written.
-pub record WritesDefined (limit : ℕ) (bytes : List ℕ) (old new : Option (List ℕ)) (status : Status) : Type 0 where
+pub record WritesDefined (job : Job) (bytes : List ℕ) (old new : Option (List ℕ)) (status : Status) : Type 0 where
   pub text : List ℕ
-  pub defined : IsDefined limit bytes text status
+  pub defined : IsDefined job bytes text status
   pub written : new ≡ append_known old text
 
 -- A prefix of the text that is defined for these bytes was written.
-pub record WritesPrefix (limit : ℕ) (bytes : List ℕ) (old new : Option (List ℕ)) : Type 0 where
+pub record WritesPrefix (job : Job) (bytes : List ℕ) (old new : Option (List ℕ)) : Type 0 where
   pub text : List ℕ
   pub status : Status
-  pub defined : IsDefined limit bytes text status
+  pub defined : IsDefined job bytes text status
   pub written : AppendsPrefix old new text
 
--- What was written is a prefix of whatever text is defined for these bytes. (No clause says that one is: where memory is
--- wanting it may not have been found.)
-abbrev pub KeepsToDefined : ℕ → List ℕ → Option (List ℕ) → Option (List ℕ) → Type 0
-KeepsToDefined limit bytes old new = (text : List ℕ) (status : Status) → IsDefined limit bytes text status → AppendsPrefix old new text
+-- Nothing was written, or a prefix of the text that is defined. (Where nothing was written, no clause says that a text is
+-- defined: memory may have been wanting before it was found.)
+abbrev pub KeepsToDefined : Job → List ℕ → Option (List ℕ) → Option (List ℕ) → Type 0
+KeepsToDefined job bytes old new = (new ≡ old) ⊎ WritesPrefix job bytes old new
 
 -- What was written, by the answer, where these bytes were left in the source: the whole text that is defined, with its
 -- status; or nothing, where the source failed or the bytes are too many; or a prefix, where the sink failed or memory was
 -- wanting. No other answer comes.
-abbrev pub EndsAsDefined : ℕ → List ℕ → Option (List ℕ) → Option (List ℕ) → Status → Type 0
-EndsAsDefined limit bytes old new Done = WritesDefined limit bytes old new Done
-EndsAsDefined limit bytes old new Refused = WritesDefined limit bytes old new Refused
-EndsAsDefined limit bytes old new Limit = WritesDefined limit bytes old new Limit
-EndsAsDefined limit bytes old new ReadFault = new ≡ old
-EndsAsDefined limit bytes old new TooLong = (MAX_TEXT_BYTES < length bytes) × (new ≡ old)
-EndsAsDefined limit bytes old new WriteFault = WritesPrefix limit bytes old new
-EndsAsDefined limit bytes old new Memory = KeepsToDefined limit bytes old new
-EndsAsDefined limit bytes old new Usage = ⊥
+abbrev pub EndsAsDefined : Job → List ℕ → Option (List ℕ) → Option (List ℕ) → Status → Type 0
+EndsAsDefined job bytes old new Done = WritesDefined job bytes old new Done
+EndsAsDefined job bytes old new Refused = WritesDefined job bytes old new Refused
+EndsAsDefined job bytes old new Limit = WritesDefined job bytes old new Limit
+EndsAsDefined job bytes old new ReadFault = new ≡ old
+EndsAsDefined job bytes old new TooLong = (MAX_TEXT_BYTES < length bytes) × (new ≡ old)
+EndsAsDefined job bytes old new WriteFault = WritesPrefix job bytes old new
+EndsAsDefined job bytes old new Memory = KeepsToDefined job bytes old new
+EndsAsDefined job bytes old new Usage = ⊥
 
 -- The answers with which a run ends when it has written its whole text.
 abbrev pub IsOfWholeText : Status → Type 0

@@ -1,9 +1,7 @@
 -- What a grammar leaves, as the code has it and as the definitions have it.
-use Rattle.std.specs.Prelude.{ℕ}
 use Rattle.qs_clean.specs.Cascades.{Left, a_graph, no_arc, over, Ending, all_done, by_limit}
 use Rattle.qs_cascade.specs.declared.stage.StageEnd.{StageEnd}
 use Rattle.qs_cascade.specs.declared.stage.StageEnd.TheVariants as end
-use Rattle.qsys.specs.Named.{AreArcsNamed}
 
 -- What is left by a grammar that ends so.
 abbrev pub left_of : StageEnd → Left
@@ -16,9 +14,3 @@ abbrev pub ending_of : StageEnd → Ending
 ending_of (end.Left graph firings) = all_done
 ending_of (end.Empty firings) = all_done
 ending_of end.Over = by_limit
-
--- Each label in the trees that are left is one of the first n.
-abbrev pub IsLeftNamed : ℕ → Left → Type 0
-IsLeftNamed n (a_graph firings graph) = AreArcsNamed n graph.arcs
-IsLeftNamed n (no_arc firings) = Unit {0}
-IsLeftNamed n over = Unit {0}

@@ -1,10 +1,8 @@
-pub mod SimpleTexts
-pub mod Named
-pub mod Fronts
-pub mod Interned
 pub mod Texts
 pub mod Outcomes
 pub mod Ends
 pub mod Defined
 pub mod Words
+pub mod Options
 pub mod Answers
+pub mod Cascading

@@ -2,15 +2,10 @@
 -- this project's own.
 use Rattle.std.specs.Prelude.{◌≡◌, ℕ, List, [], ◌∷◌, ◌++◌, map}
 use Rattle.qs_tree.specs.declared.cell.Label.{Label}
-use Rattle.qs_pattern.specs.Rules.{Rule}
 use Rattle.qs_graph.specs.Graphs.{QGraph}
 use Rattle.qs_clean.specs.Cascades.{Cascade, Left, a_graph, no_arc, over, Ending}
+use Rattle.qs_deck.specs.Decks.{Grammar}
 use Rattle.qsys.specs.Texts.{graph_block, empty_block, limit_block}
-
--- A grammar is a name and a list of rules.
-pub record Grammar : Type 0 where
-  pub name : Label
-  pub rules : List Rule
 
 -- The block that is written behind a grammar with this name, by what it leaves.
 abbrev pub block : ℕ → List (List ℕ) → Label → Left → List ℕ

@@ -1,19 +1,13 @@
--- The texts that the program writes. A graph is written as in a deck; the other lines are this project's own. A line ends
--- with one line feed.
-use Rattle.std.specs.Prelude.{ℕ, List, ◌++◌, flat_map, codes, decimal}
+-- The texts that the program writes beside decks and graphs. Their spelling is this project's own. A line ends with one line
+-- feed.
+use Rattle.std.specs.Prelude.{ℕ, List, ◌++◌, codes, decimal}
 use Rattle.qs_tree.specs.declared.cell.Label.{Label}
-use Rattle.qs_tree.specs.Text.{name_of, label_text, tree_text}
-use Rattle.qs_graph.specs.Graphs.{Arc, QGraph}
-use Rattle.qsys.specs.SimpleTexts.{line, node_mark}
-
--- An arc: `-1- S(NP,VP) -2-.`
-abbrev pub arc_line : List (List ℕ) → Arc → List ℕ
-arc_line names arc =
-    line (node_mark arc.from ++ (codes " " ++ (tree_text names arc.tree ++ (codes " " ++ (node_mark arc.to ++ codes ".")))))
-
--- A graph: the line `-GRAPHE-`, a line for each arc in order, and the line `-FIN-`.
-abbrev pub graph_text : List (List ℕ) → QGraph → List ℕ
-graph_text names graph = line (codes "-GRAPHE-") ++ (flat_map (arc_line names) graph.arcs ++ line (codes "-FIN-"))
+use Rattle.qs_tree.specs.Text.{name_of, label_text}
+use Rattle.qs_graph.specs.Graphs.{QGraph}
+use Rattle.qs_lex.specs.declared.refusal.Cause.{Cause}
+use Rattle.qs_lex.specs.declared.refusal.Cause.TheVariants.{NotUtf8, BadCharacter, OpenQuote, BadWord, BadVariable, TooDeep, Syntax, TooManySystems, SideTooLong, TooManyCells, TooManyVariables, Unbound, TooManyArcs, Cycle, Entries, Exits}
+use Rattle.qs_lex.specs.declared.refusal.Refusal.{Refusal}
+use Rattle.qs_graphtext.specs.Texts.{line, graph_text}
 
 -- The first line of a block names the grammar: `# S`
 abbrev pub title_line : List (List ℕ) → Label → List ℕ
@@ -35,9 +29,29 @@ empty_block names name firings = counted_line names name firings ++ line (codes 
 abbrev pub limit_block : List (List ℕ) → Label → ℕ → List ℕ
 limit_block names name limit = title_line names name ++ line (codes "-LIMITE- " ++ (decimal limit ++ codes "."))
 
--- What is written for a text that isn't read.
-abbrev pub refusal_line : List ℕ
-refusal_line = line (codes "-REFUS- 1 1 NotYetRead.")
+-- The name by which a cause is told.
+abbrev pub cause_name : Cause → List ℕ
+cause_name NotUtf8 = codes "NotUtf8"
+cause_name BadCharacter = codes "BadCharacter"
+cause_name OpenQuote = codes "OpenQuote"
+cause_name BadWord = codes "BadWord"
+cause_name BadVariable = codes "BadVariable"
+cause_name TooDeep = codes "TooDeep"
+cause_name Syntax = codes "Syntax"
+cause_name TooManySystems = codes "TooManySystems"
+cause_name SideTooLong = codes "SideTooLong"
+cause_name TooManyCells = codes "TooManyCells"
+cause_name TooManyVariables = codes "TooManyVariables"
+cause_name Unbound = codes "Unbound"
+cause_name TooManyArcs = codes "TooManyArcs"
+cause_name Cycle = codes "Cycle"
+cause_name Entries = codes "Entries"
+cause_name Exits = codes "Exits"
+
+-- What is written for a text that is refused: `-REFUS- 2 3 BadCharacter.`
+abbrev pub refusal_line : Refusal → List ℕ
+refusal_line refusal =
+    line (codes "-REFUS- " ++ (decimal refusal.line ++ (codes " " ++ (decimal refusal.column ++ (codes " " ++ (cause_name refusal.cause ++ codes "."))))))
 
 -- What is written for words that give no job.
 abbrev pub usage_line : List ℕ

@@ -1,6 +1,17 @@
--- The words that follow the program's name, and the job that they give. This project's own.
-use Rattle.std.specs.Prelude.{◌≡◌, ◌⊎◌, ℕ, ◌≤◌, List, [], ◌∷◌, codes, decimal}
-use Rattle.qsys.specs.declared.job.Command.TheVariants.{Run}
+-- The words that follow the program's name, and the job that they give. They are read as clap reads the words of one simple
+-- command: clap's own definitions say which faults it finds in words (`fault_of`) and what a command's arguments are where it
+-- finds none (`matches_of`). What the command is, and what is made of its arguments, is this project's own.
+use Rattle.std.specs.Prelude.{◌≡◌, ℕ, ◌≤◌, pos, true, List, [], ◌∷◌, Option, None, Some, codes, if◌then◌else◌, option_and_then, option_map}
+use Rattle.std.specs.Option.{option_map_or}
+use Rattle.std.specs.Str.{bytes_eq}
+use Rattle.std.specs.Str.Parse.{digits_value, without_leading_plus}
+use Rattle.clap.specs.Words.{App, Row, Rule, fault_of, first_of, matches_of, new_app, new_rule, one_of, with_rule}
+use Rattle.clap.specs.Walk.{is_empty}
+use Rattle.clap.specs.Simple.{on_top}
+use Rattle.clap.specs.declared.builder.ArgAction.TheVariants.{Set}
+use Rattle.clap.specs.declared.builder.value_parser.ValueParser.TheVariants as parser
+use Rattle.qsys.specs.declared.job.Command.{Command}
+use Rattle.qsys.specs.declared.job.Command.TheVariants.{Run, Check, Graph}
 use Rattle.qsys.specs.declared.job.Job.{Job}
 
 -- A limit is a number from 1 to 100,000.
@@ -8,26 +19,71 @@ pub record IsLimit (n : ℕ) : Type 0 where
   pub low : 1 ≤ n
   pub high : n ≤ 100000
 
--- To run with this limit, with one worker.
-abbrev pub run_job : ℕ → Job
-run_job limit = record { command = Run; limit = limit; workers = 1; size = 8 }
+-- The numbers of a job are in their ranges: a limit, 1 to 8 workers, and a size from 0 to 13.
+pub record IsInRange (job : Job) : Type 0 where
+  pub limit : IsLimit job.limit
+  pub least_workers : 1 ≤ job.workers
+  pub most_workers : job.workers ≤ 8
+  pub most_size : job.size ≤ 13
 
--- The word `run` alone gives the limit 10,000.
-pub record IsPlainRun (words : List (List ℕ)) (job : Job) : Type 0 where
-  pub words_are : words ≡ codes "run" ∷ []
-  pub job_is : job ≡ run_job 10000
+-- An argument that is one word, without an option before it, and has to be there.
+abbrev pub required_word : List ℕ → Rule
+required_word name = record (new_rule name) { required = true; action = Some Set }
 
--- `run --limit N` gives the limit N, which is written in decimal without sign or leading zero.
-pub record IsLimitedRun (words : List (List ℕ)) (job : Job) : Type 0 where
-  pub limit : ℕ
-  pub in_range : IsLimit limit
-  pub words_are : words ≡ codes "run" ∷ codes "--limit" ∷ decimal limit ∷ []
-  pub job_is : job ≡ run_job limit
+-- An option with this name, which takes a number between these two, and has the last word's number where it isn't given.
+abbrev pub number_option : List ℕ → ℕ → ℕ → List ℕ → Rule
+number_option name least most default = record (new_rule name) {
+  long = Some name;
+  action = Some Set;
+  parser = Some (parser.Signed (pos least) (pos most));
+  defaults = default ∷ [];
+}
+
+-- A command whose words don't begin with the program's name.
+abbrev pub without_program : App → App
+without_program = on_top (λ shape. record shape { no_binary_name = true })
+
+-- The simple command: the command word, and the options `--limit` (from 1 to 100,000, else 10,000), `--workers` (from 1 to 8,
+-- else 4) and `--size` (from 0 to 13, else 8).
+unfoldable pub simple_command : App
+simple_command =
+    with_rule (with_rule (with_rule (with_rule (without_program (new_app (codes "qsys"))) (required_word (codes "command")))
+    (number_option (codes "limit") 1 100000 (codes "10000"))) (number_option (codes "workers") 1 8 (codes "4")))
+    (number_option (codes "size") 0 13 (codes "8"))
+
+-- The command that a command word names: a line for each one that is known.
+abbrev pub command_of : List ℕ → Option Command
+command_of word =
+    if bytes_eq word (codes "run") then Some Run
+    else if bytes_eq word (codes "check") then Some Check
+    else if bytes_eq word (codes "graph") then Some Graph
+    else None
+
+-- The number that the option of this name has among the arguments, in decimal.
+abbrev pub number_in : List Row → List ℕ → ℕ
+number_in arguments name = option_map_or (λ text. digits_value 10 (without_leading_plus text)) (one_of name arguments) 0
+
+-- The job of these arguments, with this command.
+abbrev pub job_with : List Row → Command → Job
+job_with arguments command = record {
+  command = command;
+  limit = number_in arguments (codes "limit");
+  workers = number_in arguments (codes "workers");
+  size = number_in arguments (codes "size");
+}
+
+-- The job of these arguments: none where the command word isn't one that is known.
+abbrev pub job_in : List Row → Option Job
+job_in arguments = option_map (job_with arguments) (option_and_then command_of (first_of (codes "command") arguments))
+
+-- The job of these words: none where clap defines a fault for them or the command word isn't one that is known.
+unfoldable pub job_of : List (List ℕ) → Option Job
+job_of words = if is_empty (fault_of simple_command words) then job_in (matches_of simple_command words) else None
 
 -- The words give this job.
 abbrev pub IsJobOf : List (List ℕ) → Job → Type 0
-IsJobOf words job = IsPlainRun words job ⊎ IsLimitedRun words job
+IsJobOf words job = job_of words ≡ Some job
 
--- Words that give no job are refused.
+-- The words are refused: they give no job.
 abbrev pub AreRefused : List (List ℕ) → Type 0
-AreRefused words = (job : Job) → IsJobOf words job → ⊥
+AreRefused words = job_of words ≡ None

@@ -3,8 +3,12 @@
 /// What is to be done.
 #[derive(Clone, Copy, Debug, PartialEq, Eq)]
 pub enum Command {
-    /// Read a text, run its grammar, and write what it leaves.
+    /// Read a deck, run its grammars one after another, and write what each leaves.
     Run,
+    /// Read a deck and write it.
+    Check,
+    /// Read a deck and write its graph.
+    Graph,
 }
 
 /// A job: what is to be done, the most firings that a grammar may need, from 1 to 100,000, how many workers do it, and a

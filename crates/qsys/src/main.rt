@@ -1,18 +1,17 @@
-//! Q-systems: reads a grammar and a Q-graph from standard input, runs the grammar on the graph, and writes what it leaves to
-//! standard output.
+//! Q-systems: reads grammars and a Q-graph from standard input, runs the grammars one after another on the graph, and writes
+//! what each leaves to standard output.
 #![tactic(auto)]
 
 mod blocks;
+mod cascade;
 pub mod defined_laws;
 pub mod job;
-pub mod laws;
-mod making;
+mod refusals;
 pub mod run;
-mod scanning;
-pub mod simple;
 pub mod status;
 pub mod top;
 pub mod words;
+pub mod words_laws;
 
 use crate::status::Status;
 use crate::top::qsys;
@@ -44,3 +43,5 @@ fn main(rt: HostRuntime) -> ExitCode {
 mod tests;
 #[cfg(test)]
 mod tests_run;
+#[cfg(test)]
+mod tests_words;

@@ -1,72 +1,93 @@
 //! A run: from the bytes of a source to those of a sink.
 
-ghost use Rattle.std.specs.Prelude.{◌≡◌, ◌≢◌, ◌⊎◌, ◌↔◌, ◌+◌, ◌≤◌, ℕ, List, Some, IfOk, length};
+ghost use Rattle.std.specs.Prelude.{◌≡◌, ◌≢◌, ◌⊎◌, ◌↔◌, ◌+◌, ◌≤◌, ℕ, List, Some, Result, Ok, Err, IfOk, length, map};
 ghost use Rattle.std.specs.Io.KnownBytes.{IsAtEnd};
+ghost use Rattle.qs_graphtext.specs.Texts.{graph_text};
 ghost use Rattle.qs_io.specs.Devices.{HasRisen, TakesBytes};
-ghost use Rattle.qsys.specs.Texts.{refusal_line};
+ghost use Rattle.qs_deck.specs.Decks.{grammar_of};
+ghost use Rattle.qs_deck.specs.Texts.{deck_text};
 ghost use Rattle.qsys.specs.Words.{IsLimit};
-ghost use Rattle.qsys.specs.Defined.{IsDefined, status_of};
-ghost use Rattle.qsys.specs.Ends.{ending_of};
 ghost use Rattle.qsys.specs.Answers.{EndsAsDefined, IsOfWholeText, WritesDefined};
+ghost use Rattle.qsys.specs.Cascading.{IsAnswered, IsWritten};
 
-use crate::blocks::block;
-use crate::job::Job;
-use crate::simple::{SimpleEnd, read_simple};
+use crate::cascade::cascade;
+use crate::job::{Command, Job};
+use crate::refusals::refusal_line;
 use crate::status::Status;
-use qs_cascade::{StageEnd, stage_alone};
+use qs_deck::{Deck, DeckEnd, read_deck, write_deck};
+use qs_graphtext::write_graph;
 use qs_io::{MAX_TEXT_BYTES, ReadEnd, Sink, Source, read_all, write_all};
 use std::alloc::{AllocError, Global};
 
-/// A text to be written, and the status of a run that has written all of it.
-#[derive(Drop)]
-struct Answer {
-    text: Vec<u8>,
-    status: Status,
+/// The text of the deck.
+fn deck_text(alloc: Global, deck: &Deck) -> Result<Vec<u8>, AllocError>
+    ensures { IfOk result (λ text. text.items ≡ deck_text deck.now.names (map grammar_of deck.now.systems.items) deck.now.graph) }
+{
+    let mut text = Vec::new(alloc);
+    write_deck(alloc, deck, &mut text)?;
+    Ok(text)
 }
 
-/// The status of a run whose last grammar ends so.
-fn status_of(end: &StageEnd) -> Status
-    ensures { result ≡ status_of (ending_of end.now) }
+/// The text of the deck's graph.
+fn graph_text(alloc: Global, deck: &Deck) -> Result<Vec<u8>, AllocError>
+    ensures { IfOk result (λ text. text.items ≡ graph_text deck.now.names deck.now.graph) }
 {
-    match end {
-        StageEnd::Left { .. } | StageEnd::Empty { .. } => Status::Done,
-        StageEnd::Over => Status::Limit,
+    let mut text = Vec::new(alloc);
+    write_graph(alloc, &deck.graph, &deck.names, &mut text)?;
+    Ok(text)
+}
+
+/// Writes the text, where memory was there for it, and answers with the status.
+fn write_text<K: Sink>(sink: &mut K, text: Result<Vec<u8>, AllocError>, status: Status) -> Status
+    ensures written { IsWritten text (K.written sink.old) (K.written sink.new) status result }
+    ensures fault { result ≡ Status.WriteFault → (status ≡ Status.WriteFault) ⊎ HasRisen (K.faults sink.old) (K.faults sink.new) }
+    ensures count { K.faults sink.old ≤ K.faults sink.new }
+{
+    let Ok(text) = text else {
+        return Status::Memory;
+    };
+    match write_all(sink, &text) {
+        Ok(()) => status,
+        Err(_) => Status::WriteFault,
     }
 }
 
-/// The line that refuses a text.
-fn refusal(alloc: Global) -> Result<Vec<u8>, AllocError>
-    ensures { IfOk result (λ line. line.items ≡ refusal_line) }
-{
-    b"-REFUS- 1 1 NotYetRead.\n".to_vec(alloc)
-}
-
-/// What is defined for the bytes that were read.
-fn answer_to(alloc: Global, limit: u32, bytes: &[u8]) -> Result<Answer, AllocError>
-    requires limit { IsLimit limit }
+/// Does the job with the text that was read. `Memory` comes where memory was wanting: before anything was written, or with a
+/// prefix of the text that is defined.
+fn answer<K: Sink>(alloc: Global, job: &Job, bytes: &[u8], sink: &mut K) -> Status
+    requires limit { IsLimit job.now.limit }
     requires bytes { length bytes.now ≤ MAX_TEXT_BYTES }
-    ensures { IfOk result (λ answer. IsDefined limit bytes.now answer.text.items answer.status) }
+    ensures answered { IsAnswered job.now bytes.now (K.written sink.old) (K.written sink.new) result }
+    ensures kinds { IsOfWholeText result ⊎ (result ≡ Status.WriteFault) ⊎ (result ≡ Status.Memory) }
+    ensures fault { result ≡ Status.WriteFault → HasRisen (K.faults sink.old) (K.faults sink.new) }
+    ensures count { K.faults sink.old ≤ K.faults sink.new }
 {
-    let simple = match read_simple(alloc, bytes) {
-        Ok(simple) => simple,
-        Err(SimpleEnd::NotYetRead) => {
-            return Ok(Answer {
-                text: refusal(alloc)?,
-                status: Status::Refused,
-            });
+    let deck = match read_deck(alloc, bytes) {
+        Ok(deck) => deck,
+        Err(DeckEnd::Refused(refusal)) => {
+            return write_text(sink, refusal_line(alloc, &refusal), Status::Refused);
         }
-        Err(SimpleEnd::Memory) => return Err(AllocError),
+        Err(DeckEnd::Memory) => return Status::Memory,
     };
-    let end = stage_alone(alloc, &simple.rules, &simple.graph, limit)?;
-    Ok(Answer {
-        text: block(alloc, &simple.names, simple.name, limit, &end)?,
-        status: status_of(&end),
-    })
+    match job.command {
+        Command::Run => {
+            let Deck {
+                names,
+                systems,
+                graph,
+            } = deck;
+            cascade(alloc, &names, &systems, graph, job.limit, sink)
+        }
+        Command::Check => write_text(sink, deck_text(alloc, &deck), Status::Done),
+        Command::Graph => write_text(sink, graph_text(alloc, &deck), Status::Done),
+    }
 }
 
-/// Runs the job: reads the source to its end, runs the grammar that the text says, and writes what it leaves to the sink.
-/// The limit is from 1 to 100,000, and there is one worker. It always returns, and never waits.
+/// Does the job: reads the source to its end and the deck that it means, and writes to the sink what is defined. The limit is
+/// from 1 to 100,000. One worker does it, whatever the job says of workers. It always returns, and never waits.
 ///
+/// - `run` runs the grammars one after another and writes what each leaves, when it has ended; `check` writes the deck and
+///   `graph` its graph. For a text that isn't accepted its first fault is told.
 /// - `Done`, `Refused` and `Limit` come where the whole text that is defined was written, and the source was read to its
 ///   end.
 /// - `ReadFault` comes only where the source's count of faults rose in this call, and `TooLong` exactly where
@@ -80,16 +101,15 @@ pub fn run_still<S: Source, K: Sink>(
     sink: &mut K,
 ) -> Status
     requires limit { IsLimit job.now.limit }
-    requires alone { job.now.workers ≡ 1 }
 
     // Where the source tells its bytes, exactly what is defined for them is written; only too many bytes, a fault that is
     // counted or want of memory stops it, at a prefix.
     ensures headline { (bytes : List ℕ) → S.left source.old ≡ Some bytes
-        → EndsAsDefined job.now.limit bytes (K.written sink.old) (K.written sink.new) result }
+        → EndsAsDefined job.now bytes (K.written sink.old) (K.written sink.new) result }
     // With no fault and not too many bytes, only memory can be wanting.
     ensures complete { (bytes : List ℕ) → S.left source.old ≡ Some bytes → length bytes ≤ MAX_TEXT_BYTES
         → ¬ HasRisen (S.faults source.old) (S.faults source.new) → ¬ HasRisen (K.faults sink.old) (K.faults sink.new)
-        → WritesDefined job.now.limit bytes (K.written sink.old) (K.written sink.new) result ⊎ (result ≡ Status.Memory) }
+        → WritesDefined job.now bytes (K.written sink.old) (K.written sink.new) result ⊎ (result ≡ Status.Memory) }
 
     ensures read_to_end { IsOfWholeText result → IsAtEnd (S.left source.new) }
     ensures read_fault { result ≡ Status.ReadFault → HasRisen (S.faults source.old) (S.faults source.new) }
@@ -108,11 +128,5 @@ pub fn run_still<S: Source, K: Sink>(
         Err(ReadEnd::TooLong) => return Status::TooLong,
         Err(ReadEnd::Memory) => return Status::Memory,
     };
-    let Ok(answer) = answer_to(alloc, job.limit, &bytes) else {
-        return Status::Memory;
-    };
-    match write_all(sink, &answer.text) {
-        Ok(()) => answer.status,
-        Err(_) => Status::WriteFault,
-    }
+    answer(alloc, job, &bytes, sink)
 }

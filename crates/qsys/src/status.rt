@@ -7,7 +7,7 @@ pub enum Status {
     Done = 0,
     /// The words give no job; the usage line was written.
     Usage = 1,
-    /// The text that was read isn't simple; the line that says so was written.
+    /// The text that was read isn't accepted; the line that tells its first fault was written.
     Refused = 2,
     /// A grammar needs more firings than the limit; the text up to the line that says so was written.
     Limit = 3,

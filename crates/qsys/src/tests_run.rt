@@ -1,6 +1,5 @@
 use crate::status::Status;
 use crate::top::qsys;
-use crate::words::read_words;
 use qs_io::{MemSink, MemSource, SureSource};
 use std::alloc::{AllocError, Global};
 use std::test::Fail;
@@ -73,11 +72,11 @@ fn a_grammar_gives_its_block_and_a_limit_that_is_met_its_line(rt: HostRuntime) -
             b"# S 1\n-GRAPHE-\n-1- VIENT -3-.\n-4- SUD -2-.\n-3- DE -5-.\n-5- LE -4-.\n-FIN-\n".as_slice(),
         ),
         (
-            "a text that isn't simple is refused",
+            "a text that isn't accepted is refused",
             "run",
-            b"-SYSTEME- S.\nA(B) == C.\n-GRAPHE-\n-1- A -2-.\n-FIN-\n".as_slice(),
+            b"-SYSTEME- S.\nA() == U*.\n-GRAPHE-\n-1- A -2-.\n-FIN-\n".as_slice(),
             Status::Refused,
-            b"-REFUS- 1 1 NotYetRead.\n".as_slice(),
+            b"-REFUS- 2 8 Syntax.\n".as_slice(),
         ),
     ] {
         let found = outcome(rt.alloc(), line, text)?;
@@ -227,22 +226,27 @@ fn a_block_is_one_write(rt: HostRuntime) -> Result<(), Fail> {
 }
 
 #[test]
+fn any_number_of_workers_gives_the_same_block(rt: HostRuntime) -> Result<(), Fail> {
+    for line in [
+        "run --workers 1",
+        "run --workers=8 --size 0",
+        "--workers 2 run",
+    ] {
+        let found = outcome(rt.alloc(), line, TEXT)?;
+        assert_eq!(rt; found.0, Status::Done, "{line}");
+        assert_eq!(rt;
+            found.1.as_slice(),
+            b"# S 1\n-GRAPHE-\n-1- B -2-.\n-FIN-\n".as_slice(),
+            "{line}"
+        );
+    }
+    Ok(())
+}
+
+#[test]
 fn other_words_give_the_usage_line_and_nothing_is_read(rt: HostRuntime) -> Result<(), Fail> {
     let alloc = rt.alloc();
-    for line in [
-        "",
-        "walk",
-        "Run",
-        "run run",
-        "run --limit",
-        "run --limit 0",
-        "run --limit 05",
-        "run --limit +5",
-        "run --limit 5x",
-        "run --limit 100001",
-        "run --limit 18446744073709551617",
-        "run --limit 5 6",
-    ] {
+    for line in ["", "walk", "run --limit 0", "run --workers 9", "--help"] {
         let words = words_of(alloc, line)?;
         let mut source = MemSource::new(alloc, TEXT.to_vec(alloc)?, 100, vec![in alloc]?);
         let mut sink = MemSink::new(alloc, 1000, 1000, vec![in alloc]?)?;
@@ -250,22 +254,6 @@ fn other_words_give_the_usage_line_and_nothing_is_read(rt: HostRuntime) -> Resul
         assert_eq!(rt; status, Status::Usage, "{line}");
         assert_eq!(rt; sink.written(), USAGE, "{line}");
         assert_eq!(rt; source.left(), TEXT, "{line}");
-    }
-    Ok(())
-}
-
-#[test]
-fn words_give_a_limit_from_1_to_100000(rt: HostRuntime) -> Result<(), Fail> {
-    for (line, limit) in [
-        ("run", 10_000),
-        ("run --limit 1", 1),
-        ("run --limit 5", 5),
-        ("run --limit 100000", 100_000),
-    ] {
-        let words = words_of(rt.alloc(), line)?;
-        let job = read_words(&words).ok_or(line)?;
-        assert_eq!(rt; job.limit, limit, "{line}");
-        assert_eq!(rt; job.workers, 1, "{line}");
     }
     Ok(())
 }

@@ -11,7 +11,7 @@ ghost use Rattle.qsys.specs.Answers.{EndsAsDefined, IsOfWholeText, WritesDefined
 
 use crate::run::run_still;
 use crate::status::Status;
-use crate::words::read_words;
+use crate::words::{WordsEnd, read_words};
 use qs_io::{MAX_TEXT_BYTES, Sink, Source, write_all};
 use std::alloc::Global;
 
@@ -31,11 +31,12 @@ fn write_usage<K: Sink>(sink: &mut K) -> Status
     }
 }
 
-/// Reads the words that follow the program's name, and does the job that they give: `run`, or `run --limit N` with N from 1
-/// to 100,000. It always returns, and never waits.
+/// Reads the words that follow the program's name, and does the job that they give, as `read_words` says. One worker does
+/// it, whatever the words say of workers. It always returns, and never waits.
 ///
 /// For other words the usage line is written and nothing is read; the answer is `Usage` then, or `WriteFault` where the
-/// sink failed. For the answers of a job see `run_still`.
+/// sink failed. Where there was no memory to read the words, the answer is `Memory`, and nothing is read or written. For
+/// the answers of a job see `run_still`.
 pub fn qsys<S: Source, K: Sink>(
     alloc: Global,
     words: &[String],
@@ -46,16 +47,18 @@ pub fn qsys<S: Source, K: Sink>(
     // counted or want of memory stops it, at a prefix.
     ensures headline { (job : Job) → IsJobOf (map string_bytes words.now) job
         → (bytes : List ℕ) → S.left source.old ≡ Some bytes
-        → EndsAsDefined job.limit bytes (K.written sink.old) (K.written sink.new) result }
+        → EndsAsDefined job bytes (K.written sink.old) (K.written sink.new) result }
     // With no fault and not too many bytes, only memory can be wanting.
     ensures complete { (job : Job) → IsJobOf (map string_bytes words.now) job
         → (bytes : List ℕ) → S.left source.old ≡ Some bytes → length bytes ≤ MAX_TEXT_BYTES
         → ¬ HasRisen (S.faults source.old) (S.faults source.new) → ¬ HasRisen (K.faults sink.old) (K.faults sink.new)
-        → WritesDefined job.limit bytes (K.written sink.old) (K.written sink.new) result ⊎ (result ≡ Status.Memory) }
+        → WritesDefined job bytes (K.written sink.old) (K.written sink.new) result ⊎ (result ≡ Status.Memory) }
 
-    // Words that give no job are answered with the usage line, and nothing is read for them.
+    // Words that give no job are answered with the usage line, where there is memory to read them, and nothing is read for
+    // them.
     ensures usage { result ≡ Status.Usage → AreRefused (map string_bytes words.now) × (K.written sink.new ≡ append_known (K.written sink.old) usage_line) }
-    ensures refused_words { AreRefused (map string_bytes words.now) → (result ≡ Status.Usage) ⊎ ((result ≡ Status.WriteFault) × AppendsPrefix (K.written sink.old) (K.written sink.new) usage_line) }
+    ensures refused_words { AreRefused (map string_bytes words.now) → (result ≡ Status.Usage) ⊎ ((result ≡ Status.WriteFault) × AppendsPrefix (K.written sink.old) (K.written sink.new) usage_line)
+        ⊎ ((result ≡ Status.Memory) × (K.written sink.new ≡ K.written sink.old)) }
     ensures nothing_read { AreRefused (map string_bytes words.now) → source.new ≡ source.old }
 
     ensures read_to_end { IsOfWholeText result → IsAtEnd (S.left source.new) }
@@ -68,8 +71,9 @@ pub fn qsys<S: Source, K: Sink>(
     ensures source_count { S.faults source.old ≤ S.faults source.new }
     ensures sink_count { K.faults sink.old ≤ K.faults sink.new }
 {
-    match read_words(words) {
-        Some(job) => run_still(alloc, &job, source, sink),
-        None => write_usage(sink),
+    match read_words(alloc, words) {
+        Ok(job) => run_still(alloc, &job, source, sink),
+        Err(WordsEnd::Usage) => write_usage(sink),
+        Err(WordsEnd::Memory) => Status::Memory,
     }
 }

@@ -1,54 +1,127 @@
-//! Reading the words that follow the program's name.
+//! Reading the words that follow the program's name, with `clap`.
 
-ghost use Rattle.std.specs.Prelude.{◌≡◌, ◌≤◌, ℕ, IfSome, IsTrue, ◌↔◌, None, decimal, map};
+ghost use Rattle.std.specs.Prelude.{◌≡◌, ◌≤◌, ◌<◌, ◌^◌, ℕ, IfOk, IfSome, IsErrOf, false, map};
 ghost use Rattle.std.specs.String.{string_bytes};
-ghost use Rattle.qsys.specs.Words.{IsLimit, IsJobOf, AreRefused, run_job};
+ghost use Rattle.clap.specs.Words.{app_of, found_of, rows_of, rule_of};
+ghost use Rattle.qsys.specs.Words.{AreRefused, IsInRange, IsJobOf, command_of, job_in, number_in, number_option, required_word, simple_command};
+ghost use Rattle.qsys.specs.Options.{HasNumber, HasNumbers, HasSomeNumber};
 
 use crate::job::{Command, Job};
+use clap::error::ErrorKind;
+use clap::{Arg, ArgAction, ArgMatches, value_parser};
+use std::alloc::{AllocError, Global};
+use thiserror::Error;
 
-/// The limit where the words don't give one.
-const DEFAULT_LIMIT: u32 = 10_000;
+/// Why no job was read.
+#[derive(Clone, Copy, Debug, PartialEq, Eq, Error)]
+pub enum WordsEnd {
+    /// The words are refused.
+    #[error("the words give no job")]
+    Usage,
+    /// There was no memory.
+    #[error("there was not enough memory to read the words")]
+    Memory,
+}
 
-/// The job of running with this limit.
-fn run_job(limit: u32) -> Job
-    ensures { result ≡ run_job limit }
-{
-    Job {
-        command: Command::Run,
-        limit,
-        workers: 1,
-        size: 8,
+impl From<AllocError> for WordsEnd {
+    ghost use Rattle.std.specs.Prelude.{◌≡◌};
+    ghost use Rattle.qsys.specs.declared.words.WordsEnd.TheVariants.{Memory};
+
+    ghost from_gives = { λ _ e. e ≡ Memory };
+
+    fn from(_: AllocError) -> WordsEnd {
+        WordsEnd::Memory
     }
 }
 
-/// The limit that the text writes in decimal, without sign or leading zero.
-fn limit_of(text: &str) -> Option<u32>
-    ensures written { IfSome result (λ n. text.now ≡ decimal n) }
-    ensures range { IfSome result IsLimit }
-    ensures none { result ≡ None → (n : ℕ) → IsLimit n → text.now ≡ decimal n → ⊥ }
+/// One word without an option before it, which has to be there.
+fn required_word<'a>(alloc: Global, name: &'a str) -> Arg<'a>
+    ensures rule { rule_of result ≡ required_word name.entry.now }
+    ensures local { result.global ≡ false }
 {
-    let first = *text.as_bytes().first()?;
-    // A sign or a leading zero would be read too. Both come before the digit 1 in ASCII.
-    if first < b'1' {
-        return None;
-    }
-    let n: u32 = text.parse().ok()?;
-    if n <= 100_000 { Some(n) } else { None }
+    Arg::new(alloc, name).required(true).action(ArgAction::Set)
 }
 
-/// Reads the words: `run`, or `run --limit N`, where N is a number from 1 to 100,000 in decimal, without sign or leading
-/// zero. The default limit is 10,000. Any other words give no job. Takes no memory.
-pub fn read_words(words: &[String]) -> Option<Job>
-    ensures some { IfSome result (λ job. IsJobOf (map string_bytes words.now) job) }
-    ensures limit { IfSome result (λ job. IsLimit job.limit) }
-    ensures workers { IfSome result (λ job. job.workers ≡ 1) }
-    ensures none { result ≡ None → AreRefused (map string_bytes words.now) }
+/// An option that takes a number from `least` to `most`, and has that of the last text where it isn't given.
+fn number_option<'a>(
+    alloc: Global,
+    name: &'a str,
+    least: u32,
+    most: u32,
+    default: &'a str,
+) -> Arg<'a>
+    ensures rule { rule_of result ≡ number_option name.entry.now least most default.entry.now }
+    ensures local { result.global ≡ false }
 {
-    match words {
-        [command] if command.as_str() == "run" => Some(run_job(DEFAULT_LIMIT)),
-        [command, option, number] if command.as_str() == "run" && option.as_str() == "--limit" => {
-            Some(run_job(limit_of(number.as_str())?))
-        }
+    let numbers = value_parser!(u32).range(i64::from(least)..=i64::from(most));
+    Arg::new(alloc, name)
+        .long(name)
+        .action(ArgAction::Set)
+        .value_parser(numbers)
+        .default_value(default)
+}
+
+/// The simple command with which the words are matched.
+fn simple_command<'a>(alloc: Global) -> Result<clap::Command<'a>, AllocError>
+    ensures { IfOk result (λ command. app_of command ≡ simple_command) }
+{
+    clap::Command::new(alloc, "qsys")
+        .no_binary_name(true)
+        .arg(required_word(alloc, "command"))?
+        .arg(number_option(alloc, "limit", 1, 100_000, "10000"))?
+        .arg(number_option(alloc, "workers", 1, 8, "4"))?
+        .arg(number_option(alloc, "size", 0, 13, "8"))
+}
+
+/// The command that a command word names, where it is one that is known.
+fn command_of(word: &str) -> Option<Command>
+    ensures { result ≡ command_of word.now }
+{
+    match word {
+        "run" => Some(Command::Run),
+        "check" => Some(Command::Check),
+        "graph" => Some(Command::Graph),
         _ => None,
+    }
+}
+
+/// The number of an option that has one.
+fn number_in(matches: &ArgMatches<'_>, name: &str) -> u32
+    requires { HasSomeNumber (found_of matches.now) name.now }
+    ensures number { result ≡ number_in (rows_of (found_of matches.now)) name.now }
+    ensures range { (least most : ℕ) → most < 2 ^ 32 → HasNumber (found_of matches.now) name.now least most → (least ≤ result) × (result ≤ most) }
+{
+    matches.get_one(name).unwrap()
+}
+
+/// The job of a match, where its command word is known.
+fn job_in(matches: &ArgMatches<'_>) -> Option<Job>
+    requires { HasNumbers (found_of matches.now) }
+    ensures job { result ≡ job_in (rows_of (found_of matches.now)) }
+    ensures range { IfSome result IsInRange }
+{
+    let command = command_of(matches.get_str("command")?)?;
+    Some(Job {
+        command,
+        limit: number_in(matches, "limit"),
+        workers: number_in(matches, "workers"),
+        size: number_in(matches, "size"),
+    })
+}
+
+/// Reads the words, those behind the program's name: a command word that is known, with the options `--limit` (from 1 to
+/// 100,000, else 10,000), `--workers` (from 1 to 8, else 4) and `--size` (from 0 to 13, else 8) anywhere. `Usage` comes
+/// exactly where `clap` refuses the words, which it does for `--help` too, or the command word isn't known; `Memory` comes
+/// where memory was wanting, and says nothing of the words.
+pub fn read_words(alloc: Global, words: &[String]) -> Result<Job, WordsEnd>
+    ensures job { IfOk result (λ job. IsJobOf (map string_bytes words.now) job) }
+    ensures range { IfOk result IsInRange }
+    ensures usage { IsErrOf result WordsEnd.Usage → AreRefused (map string_bytes words.now) }
+{
+    let command = simple_command(alloc)?;
+    match command.try_get_matches_from(words) {
+        Ok(matches) => job_in(&matches).ok_or(WordsEnd::Usage),
+        Err(error) if error.kind() == ErrorKind::OutOfMemory => Err(WordsEnd::Memory),
+        Err(_) => Err(WordsEnd::Usage),
     }
 }

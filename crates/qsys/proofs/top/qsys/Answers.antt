@@ -1,25 +1,25 @@
-use Rattle.std.proofs.Common.{◌≡◌, ◌⊎◌, map, refl, subst}
+use Rattle.std.proofs.Common.{◌≡◌, ◌⊎◌, Err, ap, map, subst}
 use Rattle.std.specs.String.{string_bytes}
 use Rattle.qsys.specs.declared.job.Job.{Job}
 use Rattle.qsys.specs.declared.status.Status.TheVariants as status
 use Rattle.qsys.specs.Answers.{EndsAsDefined, WritesDefined}
-use Rattle.qsys.proofs.OneDefinition.{same_job}
+use Rattle.qsys.proofs.ReadWords.{not_both, same_job}
 use Rattle.qsys.proofs.top.qsys.Goals as goal
 
-pub returns-in-Some-clause-headline : goal.returns-in-Some-clause-headline
-returns-in-Some-clause-headline g c = λ job is bytes told.
-    subst (λ (j : Job). EndsAsDefined j.limit bytes (g.K.Sink.written c.args.sink.now) (g.K.Sink.written c.run_still.new.sink) c.run_still.result)
-    (same_job (map string_bytes c.args.words.now) c.in-Some.job job c.in-Some.ensures.some is)
+pub returns-in-Ok-clause-headline : goal.returns-in-Ok-clause-headline
+returns-in-Ok-clause-headline g c = λ job is bytes told.
+    subst (λ (j : Job). EndsAsDefined j bytes (g.K.Sink.written c.args.sink.now) (g.K.Sink.written c.run_still.new.sink) c.run_still.result)
+    (same_job (map string_bytes c.args.words.now) c.in-Ok.job job c.in-Ok.ensures.job is)
     (c.run_still.ensures.headline bytes told)
 
-pub returns-in-Some-clause-complete : goal.returns-in-Some-clause-complete
-returns-in-Some-clause-complete g c = λ job is bytes told few no_read_fault no_write_fault.
-    subst (λ (j : Job). WritesDefined j.limit bytes (g.K.Sink.written c.args.sink.now) (g.K.Sink.written c.run_still.new.sink) c.run_still.result ⊎ (c.run_still.result ≡ status.Memory))
-    (same_job (map string_bytes c.args.words.now) c.in-Some.job job c.in-Some.ensures.some is)
+pub returns-in-Ok-clause-complete : goal.returns-in-Ok-clause-complete
+returns-in-Ok-clause-complete g c = λ job is bytes told few no_read_fault no_write_fault.
+    subst (λ (j : Job). WritesDefined j bytes (g.K.Sink.written c.args.sink.now) (g.K.Sink.written c.run_still.new.sink) c.run_still.result ⊎ (c.run_still.result ≡ status.Memory))
+    (same_job (map string_bytes c.args.words.now) c.in-Ok.job job c.in-Ok.ensures.job is)
     (c.run_still.ensures.complete bytes told few no_read_fault no_write_fault)
 
-pub returns-in-None-clause-headline : goal.returns-in-None-clause-headline
-returns-in-None-clause-headline g c = λ job is bytes told. absurd (c.in-None.ensures.none refl job is)
+pub returns-in-Err-Usage-clause-headline : goal.returns-in-Err-Usage-clause-headline
+returns-in-Err-Usage-clause-headline g c = λ job is bytes told. absurd (not_both (map string_bytes c.args.words.now) job is (c.in-Err-Usage.ensures.usage (ap Err c.in-Err-Usage.field-0-is)))
 
-pub returns-in-None-clause-usage : goal.returns-in-None-clause-usage
-returns-in-None-clause-usage g c = λ is. (c.in-None.ensures.none refl, c.write_usage.ensures.written is)
+pub returns-in-Err-Usage-clause-usage : goal.returns-in-Err-Usage-clause-usage
+returns-in-Err-Usage-clause-usage g c = λ is. (c.in-Err-Usage.ensures.usage (ap Err c.in-Err-Usage.field-0-is), c.write_usage.ensures.written is)

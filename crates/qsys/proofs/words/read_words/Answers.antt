@@ -1,26 +1,31 @@
-use Rattle.std.proofs.Common.{sym, ◌∙◌, inl, inr}
-use Rattle.std.specs.Prelude.{codes}
-use Rattle.std.specs.String.{string_bytes}
-use Rattle.qsys.proofs.ReadWords.{one_word, three_words, is_text}
+use Rattle.std.proofs.Common.{◌≡◌, ◌∙◌, ap, sym}
+use Rattle.clap.specs.Values.{kind_of}
+use Rattle.clap.specs.declared.error.kind.ErrorKind.TheVariants.{OutOfMemory}
+use Rattle.qsys.proofs.CommandLemmas.{has_numbers}
+use Rattle.qsys.proofs.ReadWords.{answered, job_refused, job_taken}
 use Rattle.qsys.proofs.words.read_words.Goals as goal
 
-pub returns-in-len1-clause-some : goal.returns-in-len1-clause-some
-returns-in-len1-clause-some c =
-    inl (record {
-      words_are = one_word string_bytes c.args.words.now c.command-item.result (codes "run") c.in-len1.len_at_least c.in-len1.len_below c.command-item.is
-          (is_text _ _ _ c.as_str.ensures.value c.if-eq.ensures);
-      job_is = c.run_job.ensures;
-    })
+pub job_in-requires : goal.job_in-requires
+job_in-requires c = has_numbers c.in_ok-command.command c.in_ok-command.ensures c.in-Ok.matches c.in-Ok.ensures.parsed
 
-pub returns-in_ok-limit_of-in-len3-clause-some : goal.returns-in_ok-limit_of-in-len3-clause-some
-returns-in_ok-limit_of-in-len3-clause-some c =
-    inr (record {
-      limit = c.in_ok-limit_of-in-len3.field-0;
-      in_range = c.in_ok-limit_of-in-len3.ensures.range;
-      words_are = three_words string_bytes c.args.words.now c.command-item-then-words-lt4.result c.option-item.result c.number-item.result (codes "run") (codes "--limit") _
-          c.in-len3.len_at_least c.in-len3.len_below c.command-item-then-words-lt4.is c.option-item.is c.number-item.is
-          (is_text _ _ _ c.as_str-then-words-lt4.ensures.value c.if-eq-2.ensures)
-          (is_text _ _ _ c.as_str-then-eq-2.ensures.value c.if-eq-3.ensures)
-          (sym c.as_str-in-len3.ensures.value ∙ c.in_ok-limit_of-in-len3.ensures.written);
-      job_is = c.run_job-in-len3.ensures;
-    })
+pub returns-in-Ok-clause-job : goal.returns-in-Ok-clause-job
+returns-in-Ok-clause-job c =
+    (answered _ c.job_in.result c.ok_or.result
+    (job_taken c.in_ok-command.command _ c.in-Ok.matches c.in_ok-command.ensures c.in-Ok.ensures.matches c.in-Ok.ensures.kinds ∙ sym c.job_in.ensures.job)
+    c.ok_or.ensures.value).0
+
+pub returns-in-Ok-clause-usage : goal.returns-in-Ok-clause-usage
+returns-in-Ok-clause-usage c =
+    (answered _ c.job_in.result c.ok_or.result
+    (job_taken c.in_ok-command.command _ c.in-Ok.matches c.in_ok-command.ensures c.in-Ok.ensures.matches c.in-Ok.ensures.kinds ∙ sym c.job_in.ensures.job)
+    c.ok_or.ensures.value).1
+
+pub returns-in-Err-2-clause-usage : goal.returns-in-Err-2-clause-usage
+returns-in-Err-2-clause-usage c =
+    let same : c.in-Err.error ≡ c.in-Err-2.field-0 = cc (c.in-Err.is, c.in-Err-2.is) in
+    λ _. job_refused c.in_ok-command.command _ c.in-Err-2.field-0 c.in_ok-command.ensures
+    (λ memory.
+    let kind : c.kind.result ≡ OutOfMemory = c.kind.ensures ∙ ap kind_of same ∙ memory in
+    let is_memory = rw kind at c.eq.ensures in
+    cc (is_memory, c.if-eq.false))
+    c.in-Err-2.ensures.kinds

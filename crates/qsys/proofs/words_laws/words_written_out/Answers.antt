@@ -1,0 +1,40 @@
+use Rattle.std.proofs.Common.{refl}
+use Rattle.clap.proofs.OnLiterals.{clap_on_literals}
+use Rattle.qsys.specs.Words.{job_of, simple_command}
+use Rattle.qsys.proofs.words_laws.words_written_out.Goals as goal
+
+pub returns-clause-alone : goal.returns-clause-alone
+unfolding clap_on_literals job_of simple_command
+returns-clause-alone c = refl
+
+pub returns-clause-limited : goal.returns-clause-limited
+unfolding clap_on_literals job_of simple_command
+returns-clause-limited c = refl
+
+pub returns-clause-in_front : goal.returns-clause-in_front
+unfolding clap_on_literals job_of simple_command
+returns-clause-in_front c = refl
+
+pub returns-clause-no_words : goal.returns-clause-no_words
+unfolding clap_on_literals job_of simple_command
+returns-clause-no_words c = refl
+
+pub returns-clause-unknown : goal.returns-clause-unknown
+unfolding clap_on_literals job_of simple_command
+returns-clause-unknown c = refl
+
+pub returns-clause-too_few : goal.returns-clause-too_few
+unfolding clap_on_literals job_of simple_command
+returns-clause-too_few c = refl
+
+pub returns-clause-too_many : goal.returns-clause-too_many
+unfolding clap_on_literals job_of simple_command
+returns-clause-too_many c = refl
+
+pub returns-clause-repeated : goal.returns-clause-repeated
+unfolding clap_on_literals job_of simple_command
+returns-clause-repeated c = refl
+
+pub returns-clause-help : goal.returns-clause-help
+unfolding clap_on_literals job_of simple_command
+returns-clause-help c = refl

@@ -1,0 +1,30 @@
+//! Laws of the words, over their definition alone.
+
+ghost use Rattle.std.specs.Prelude.{◌≡◌, ◌⊎◌, ℕ, List, [], ◌∷◌, codes};
+ghost use Rattle.qsys.specs.declared.job.Command.TheVariants.{Run};
+ghost use Rattle.qsys.specs.declared.job.Job.{Job};
+ghost use Rattle.qsys.specs.Words.{AreRefused, IsJobOf};
+
+/// Words give one job at most.
+pub fn one_job()
+    ensures { (words : List (List ℕ)) (j k : Job) → IsJobOf words j → IsJobOf words k → j ≡ k }
+{}
+
+/// Words give a job or are refused, and never both.
+pub fn job_or_refused()
+    ensures one { (words : List (List ℕ)) → ((job : Job) × IsJobOf words job) ⊎ AreRefused words }
+    ensures not_both { (words : List (List ℕ)) (job : Job) → IsJobOf words job → AreRefused words → ⊥ }
+{}
+
+/// What is defined for some words that are written out.
+pub fn words_written_out()
+    ensures alone { IsJobOf (codes "run" ∷ []) (record { command = Run; limit = 10000; workers = 4; size = 8 }) }
+    ensures limited { IsJobOf (codes "run" ∷ codes "--limit" ∷ codes "5" ∷ []) (record { command = Run; limit = 5; workers = 4; size = 8 }) }
+    ensures in_front { IsJobOf (codes "--size=0" ∷ codes "--workers" ∷ codes "8" ∷ codes "run" ∷ []) (record { command = Run; limit = 10000; workers = 8; size = 0 }) }
+    ensures no_words { AreRefused [] }
+    ensures unknown { AreRefused (codes "walk" ∷ []) }
+    ensures too_few { AreRefused (codes "run" ∷ codes "--limit" ∷ codes "0" ∷ []) }
+    ensures too_many { AreRefused (codes "run" ∷ codes "--workers" ∷ codes "9" ∷ []) }
+    ensures repeated { AreRefused (codes "run" ∷ codes "--limit=5" ∷ codes "--limit=5" ∷ []) }
+    ensures help { AreRefused (codes "run" ∷ codes "--help" ∷ []) }
+{}
