@@ -7,9 +7,16 @@ pub mod ConditionSteps
 pub mod RuleSteps
 pub mod Ending
 pub mod Whole
+pub mod FullLists
 pub mod Told
 pub mod RulesRead
 pub mod PatternTexts
 pub mod ConditionTexts
 pub mod OneReading
 pub mod OneRules
+pub mod ReadBack
+pub mod HeadsReadBack
+pub mod PatternsReadBack
+pub mod ConditionsReadBack
+pub mod RulesReadBack
+pub mod OneLine

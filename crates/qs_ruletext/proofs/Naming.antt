@@ -117,7 +117,7 @@ one_growth text (t ∷ ts) old new other g h =
     one_growth text ts h.0 new other (subst (λ n. NamesGrow text ts n new) same g.2) h.2
 
 -- no text comes twice
-place_of : (names : List (List ℕ)) (label text : List ℕ) (i : ℕ) → slice_get (names ++ label ∷ []) i ≡ Some text → (slice_get names i ≡ Some text) ⊎ ((i ≡ length names) × (label ≡ text))
+pub place_of : (names : List (List ℕ)) (label text : List ℕ) (i : ℕ) → slice_get (names ++ label ∷ []) i ≡ Some text → (slice_get names i ≡ Some text) ⊎ ((i ≡ length names) × (label ≡ text))
 place_of [] label text zero e = inr (refl, cc)
 place_of [] label text (suc i) e = absurd cc
 place_of (x ∷ names) label text zero e = inl e

@@ -1,5 +1,6 @@
 -- What is known of what was read: its labels are named, its variables stand at places of their classes, sides are not empty
--- and have no forest variable at their top, conditions join at least two wherever they join, and each cell is a token.
+-- and have no forest variable at their top, conditions join at least two wherever they join and compare no empty lists, and
+-- each cell is a token.
 use Rattle.std.proofs.Common.{◌≡◌, ℕ, ◌+◌, ◌≤◌, Bool, true, false, cond, refl, sym, ◌∙◌, ap, List, [], ◌∷◌, length, arith, Option}
 use Rattle.std.specs.Prelude.{◌||◌, IsTrue}
 use Rattle.std.specs.Int.{is_in_range}
@@ -20,6 +21,7 @@ use Rattle.qs_ruletext.specs.Rules.{ReadsCondIfGiven, no_cond, some_cond, ReadsR
 use Rattle.qs_ruletext.specs.declared.raw.RawRule.{RawRule}
 use Rattle.std.specs.List.{All}
 use Rattle.std.proofs.lemmas.List.Elements.{All-nil, All-cons}
+use Rattle.qs_ruletext.proofs.FullLists.{full_cond}
 use Rattle.qs_pattern.specs.Named.{IsHeadNamed, ArePatternsNamed, IsConditionNamed, AreConditionsNamed}
 
 -- the class of a variable by the sort of its token
@@ -172,7 +174,7 @@ told_rule (reads_rule {left} {right} {condition} l e r given f) =
   where
     told_given : {names : List (List ℕ)} {text : List ℕ} {us vs : List Token} {c : Option Condition} → ReadsCondIfGiven names text us c vs → IsWellReadIfGiven (length names) c
     told_given no_cond = tt
-    told_given (some_cond e c) = let d = told_cond c in record { named = d.0; in_class = d.1; enough = d.2 }
+    told_given (some_cond e c) = let d = told_cond c in record { named = d.0; in_class = d.1; enough = d.2; lists = full_cond c }
 
 pub told_rules : (names : List (List ℕ)) (text : List ℕ) (ts rest : List Token) (raws : List RawRule) → ReadsRules names text ts raws rest
     → All (λ raw. IsWellRead (length names) (rule_of raw)) raws

@@ -5,5 +5,6 @@ pub mod Rules
 pub mod Names
 pub mod Endings
 pub mod Texts
+pub mod Written
 -- No public contract cites these: they are what the private functions of the reader promise.
 pub mod Cursors

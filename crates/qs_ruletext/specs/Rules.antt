@@ -13,6 +13,7 @@ use Rattle.qs_ruletext.specs.declared.raw.TextEnd.TheVariants.{Syntax, Memory}
 use Rattle.qs_ruletext.specs.Grammar.{rule, line}
 use Rattle.qs_pattern.specs.Named.{ArePatternsNamed, IsConditionNamed}
 use Rattle.qs_ruletext.specs.Reading.{ReadsSide, ReadsCond}
+use Rattle.qs_ruletext.specs.Written.{HasFullLists}
 
 -- a cell is a label or a variable
 abbrev pub is_cell : Kind → Bool
@@ -49,6 +50,7 @@ pub record IsWellReadSide (n : ℕ) (side : Patterns) : Type 0 where
 pub record IsWellReadCondition (n : ℕ) (c : Condition) : Type 0 where
   pub in_class : IsConditionInClass c
   pub enough : HasEnoughMembers c
+  pub lists : HasFullLists c
   pub named : IsConditionNamed n c
 
 abbrev pub IsWellReadIfGiven : ℕ → Option Condition → Type 0

@@ -1,7 +1,9 @@
 //! What holds of the definitions, whatever the program does.
 
-ghost use Rattle.std.specs.Prelude.{◌≡◌, ℕ, ◌↔◌, List, ◌++◌, length, map, drop};
+ghost use Rattle.std.specs.Prelude.{◌≡◌, ℕ, ◌+◌, ◌↔◌, List, [], ◌++◌, length, map, drop};
+ghost use Rattle.std.specs.List.{All};
 ghost use Rattle.qs_lex.specs.declared.token.Token.{Token};
+ghost use Rattle.qs_lex.specs.Tokens.{Reads, AreTokensOf, IsTokenOf};
 ghost use Rattle.qs_lex.specs.Grammar.{part, repeated, IsWhole};
 ghost use Rattle.qs_tree.specs.Names.{AreDistinct};
 ghost use Rattle.qs_pattern.specs.Rules.{Rule};
@@ -10,6 +12,7 @@ ghost use Rattle.qs_ruletext.specs.Grammar.{rule, line};
 ghost use Rattle.qs_ruletext.specs.Rules.{ReadsRule, ReadsRules, IsWellRead, rule_of, NoRuleAt};
 ghost use Rattle.qs_ruletext.specs.Endings.{NoRuleIn};
 ghost use Rattle.qs_ruletext.specs.Names.{NamesGrow};
+ghost use Rattle.qs_ruletext.specs.Written.{AreOnOneLine, written};
 
 /// What is read is whole by the grammar.
 pub fn what_is_read_is_whole()
@@ -27,7 +30,7 @@ pub fn names_grow_to_one()
 {}
 
 /// The sides of a rule that was read are not empty and have no forest variable at their top, its variables stand at places
-/// of their classes, its condition joins at least two wherever it joins, and its labels are named.
+/// of their classes, its condition joins at least two wherever it joins and compares no empty list, and its labels are named.
 pub fn what_is_read_is_well_made()
     ensures { (names : List (List ℕ)) (text : List ℕ) (ts rest : List Token) (r : Rule) → ReadsRule names text ts r rest → IsWellRead (length names) r }
 {}
@@ -39,4 +42,19 @@ pub fn one_reading()
     ensures rule { (names : List (List ℕ)) (text : List ℕ) (ts rest end : List Token) (r s : Rule) → AreDistinct names → ReadsRule names text ts r rest → ReadsRule names text ts s end → (r ≡ s) × (rest ≡ end) }
     ensures rules { (names : List (List ℕ)) (text : List ℕ) (ts rest end : List Token) (raws others : List RawRule) → AreDistinct names → ReadsRules names text ts raws rest → ReadsRules names text ts others end → NoRuleIn rest → NoRuleIn end → (map rule_of raws ≡ map rule_of others) × (map (λ raw. raw.at.items) raws ≡ map (λ raw. raw.at.items) others) × (rest ≡ end) }
     ensures place { (tokens : List Token) (at : ℕ) → NoRuleAt tokens at ↔ NoRuleIn (drop at tokens) }
+{}
+
+/// What is written of a rule is read as that rule, where the rule is as one that was read and no name has the end of a line.
+/// Alone it is the whole text. In a longer text, whatever stands before and behind it: where tokens are read from the place
+/// behind it on, tokens are read from its place on, and they are the rule and then those. Where no two names are equal, it is
+/// read as no other rule, so that two rules that are written alike are one.
+pub fn what_is_written_is_read()
+    ensures alone { (names : List (List ℕ)) (r : Rule) → AreOnOneLine names → IsWellRead (length names) r → (ts : List Token) × AreTokensOf (written names r) ts × ReadsRule names (written names r) ts r [] }
+    ensures within { (names : List (List ℕ)) (before behind : List ℕ) (r : Rule) (rest : List Token) (next : ℕ) → AreOnOneLine names → IsWellRead (length names) r → Reads (before ++ (written names r ++ behind)) (length before + length (written names r)) rest next → (ts : List Token) × Reads (before ++ (written names r ++ behind)) (length before) ts next × ReadsRule names (before ++ (written names r ++ behind)) ts r rest }
+    ensures only { (names : List (List ℕ)) (r s : Rule) (ts rest : List Token) → AreDistinct names → AreOnOneLine names → IsWellRead (length names) r → AreTokensOf (written names r) ts → ReadsRule names (written names r) ts s rest → (s ≡ r) × (rest ≡ []) }
+{}
+
+/// No label that is read has the end of a line: where no name had one before, none has one after tokens of a text.
+pub fn names_stay_on_one_line()
+    ensures { (text : List ℕ) (ts : List Token) (old new : List (List ℕ)) → All (IsTokenOf text) ts → AreOnOneLine old → NamesGrow text ts old new → AreOnOneLine new }
 {}
