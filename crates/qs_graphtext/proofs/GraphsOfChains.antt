@@ -49,7 +49,7 @@ inside_laid number top G (c ∷ chains) l h n =
     inside_laid number top (with_chain G (number c.from) c.trees (number c.to)) chains (omega (arith, l))
     (inside_chain G (number c.from) (number c.to) c.trees h (r.0.0, omega (arith, r.0.1, l)) (r.1.0, omega (arith, r.1.1, l))) (λ d i. n d (inr i))
 
-member_contains : (ns : List ℕ) (n : ℕ) → n ∈ ns → Contains ns n
+pub member_contains : (ns : List ℕ) (n : ℕ) → n ∈ ns → Contains ns n
 member_contains [] n i = absurd i
 member_contains (m ∷ ns) n (inl e) = (0, omega arith, sym e)
 member_contains (m ∷ ns) n (inr i) = let r = member_contains ns n i in (suc r.0, omega (arith, r.1), r.2)

@@ -13,3 +13,8 @@ pub mod Written
 pub mod GraphsOfChains
 pub mod TreesLaid
 pub mod OneReading
+pub mod TreesReadBack
+pub mod GraphsReadBack
+pub mod NodesOnArcs
+pub mod SameGraph
+pub mod WrittenGraphs
