@@ -24,3 +24,5 @@ pub use written::{WrittenDeck, WrittenSystem};
 
 #[cfg(test)]
 mod reading_tests;
+#[cfg(test)]
+mod tests;
