@@ -22,13 +22,13 @@ abbrev pub OneOutcome : Type 0
 OneOutcome = (limit : ℕ) (names : List (List ℕ)) (graph : QGraph) (grammars : List Grammar) (t u : List ℕ) (e d : Ending)
     → IsOutcome limit names graph grammars t e → IsOutcome limit names graph grammars u d → (t ≡ u) × (e ≡ d)
 
--- a text has one refusal or one deck
+-- a text has one deck or one refusal
 pub record OneDeck : Type 0 where
-  pub one_refusal : (bytes : List ℕ) (r s : Refusal) → IsRefusalOf bytes r → IsRefusalOf bytes s → r ≡ s
-  pub one_deck : (bytes : List ℕ) (names others : List (List ℕ)) (grammars more : List Grammar) (graph other : QGraph)
-      → IsDeckOf bytes names grammars graph → IsDeckOf bytes others more other → (names ≡ others) × (grammars ≡ more) × (graph ≡ other)
-  pub not_both : (bytes : List ℕ) (r : Refusal) (names : List (List ℕ)) (grammars : List Grammar) (graph : QGraph)
-      → IsRefusalOf bytes r → IsDeckOf bytes names grammars graph → ⊥
+  pub deck : (text : List ℕ) (names others : List (List ℕ)) (grammars more : List Grammar) (G H : QGraph)
+      → IsDeckOf text names grammars G → IsDeckOf text others more H → (names ≡ others) × (grammars ≡ more) × (G ≡ H)
+  pub refusal : (text : List ℕ) (r s : Refusal) → IsRefusalOf text r → IsRefusalOf text s → r ≡ s
+  pub not_both : (text : List ℕ) (names : List (List ℕ)) (grammars : List Grammar) (G : QGraph) (r : Refusal)
+      → IsDeckOf text names grammars G → IsRefusalOf text r → ⊥
 
 nothing_more : (known : Option (List ℕ)) → known ≡ append_known known []
 nothing_more None = refl
@@ -46,11 +46,11 @@ module _ (one_outcome : OneOutcome) where
 
   pub same_definition : OneDeck → (job : Job) (bytes t u : List ℕ) (s r : Status) → IsDefined job bytes t s → IsDefined job bytes u r → (t ≡ u) × (s ≡ r)
   same_definition one job bytes t u s r (inl a) (inl b) =
-      (a.text_is ∙ ap refusal_line (one.one_refusal bytes a.refusal b.refusal a.refused b.refused) ∙ sym b.text_is, a.status_is ∙ sym b.status_is)
-  same_definition one job bytes t u s r (inl a) (inr b) = absurd (one.not_both bytes a.refusal b.names b.grammars b.graph a.refused b.deck)
-  same_definition one job bytes t u s r (inr a) (inl b) = absurd (one.not_both bytes b.refusal a.names a.grammars a.graph b.refused a.deck)
+      (a.text_is ∙ ap refusal_line (one.refusal bytes a.refusal b.refusal a.refused b.refused) ∙ sym b.text_is, a.status_is ∙ sym b.status_is)
+  same_definition one job bytes t u s r (inl a) (inr b) = absurd (one.not_both bytes b.names b.grammars b.graph a.refusal b.deck a.refused)
+  same_definition one job bytes t u s r (inr a) (inl b) = absurd (one.not_both bytes a.names a.grammars a.graph b.refusal a.deck b.refused)
   same_definition one job bytes t u s r (inr a) (inr b) =
-      let (names, grammars, graph) = one.one_deck bytes a.names b.names a.grammars b.grammars a.graph b.graph a.deck b.deck in
+      let (names, grammars, graph) = one.deck bytes a.names b.names a.grammars b.grammars a.graph b.graph a.deck b.deck in
       let P : List (List ℕ) × List Grammar × QGraph → Type 0 = λ x. IsDone job.command job.limit x.0 x.1 x.2 t s in
       let same : ◌≡◌ {A = List (List ℕ) × List Grammar × QGraph} (a.names, a.grammars, a.graph) (b.names, b.grammars, b.graph) =
       λ i. (names i, grammars i, graph i) in

@@ -37,10 +37,12 @@ fn graph_text(alloc: Global, deck: &Deck) -> Result<Vec<u8>, AllocError>
     Ok(text)
 }
 
-/// Writes the text, where memory was there for it, and answers with the status.
+/// Writes the text, where memory was there for it, and answers with the status of its whole text. `WriteFault` comes only where
+/// the sink failed; then a prefix of the text was written.
 fn write_text<K: Sink>(sink: &mut K, text: Result<Vec<u8>, AllocError>, status: Status) -> Status
+    requires { IsOfWholeText status }
     ensures written { IsWritten text (K.written sink.old) (K.written sink.new) status result }
-    ensures fault { result ≡ Status.WriteFault → (status ≡ Status.WriteFault) ⊎ HasRisen (K.faults sink.old) (K.faults sink.new) }
+    ensures fault { result ≡ Status.WriteFault → HasRisen (K.faults sink.old) (K.faults sink.new) }
     ensures count { K.faults sink.old ≤ K.faults sink.new }
 {
     let Ok(text) = text else {
