@@ -18,3 +18,9 @@ pub mod Fewer
 pub mod MarkDecisions
 pub mod Leaving
 pub mod CascadeExistence
+pub mod RenamingUndone
+pub mod RenamedInstances
+pub mod RenamedFirings
+pub mod RenamedRounds
+pub mod RenamedCleaning
+pub mod RenamedCascades

@@ -3,3 +3,4 @@ pub mod Cascades
 pub mod Examples
 pub mod Links
 pub mod Steps
+pub mod Renaming

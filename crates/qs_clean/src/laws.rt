@@ -1,12 +1,13 @@
 //! Laws of cleaning and of cascades, over their definitions alone.
 
-ghost use Rattle.std.specs.Prelude.{◌≡◌, ◌≤◌, ℕ, List, Option, Some, length};
+ghost use Rattle.std.specs.Prelude.{◌≡◌, ◌≤◌, ℕ, List, Option, Some, length, map};
 ghost use Rattle.qs_tree.specs.Lists.{◌∈◌};
 ghost use Rattle.qs_pattern.specs.Rules.{Rule, IsAccepted};
 ghost use Rattle.qs_graph.specs.Graphs.{Arc, QGraph, IsValid};
 ghost use Rattle.qs_canon.specs.Rounds.{Rounds, Stage};
 ghost use Rattle.qs_clean.specs.Cleaning.{Cleans, IsLeft};
 ghost use Rattle.qs_clean.specs.Cascades.{Cascade, Left, Ending};
+ghost use Rattle.qs_clean.specs.Renaming.{IsRenaming, renamed_rule, renamed_graph, renamed_left};
 
 /// Cleaning leaves one graph.
 pub fn one_left()
@@ -41,4 +42,13 @@ pub fn something_is_left()
 pub fn each_cascade_ends()
     ensures { (L : ℕ) (G : QGraph) (Rs : List (List Rule)) → IsValid G → ((R : List Rule) → R ∈ Rs → (rule : Rule) → rule ∈ R → IsAccepted rule)
         → (lefts : List Left) × (ending : Ending) × Cascade L G Rs lefts ending }
+{}
+
+/// Labels are numbers alone: a cascade of accepted rules does the same under other numbers for the labels. It leaves the
+/// same graphs with these numbers, after as many firings, and ends as it did. (In a rule that isn't accepted a variable may
+/// have no value, and gives the label 0, whichever that is.)
+pub fn labels_are_numbers_alone()
+    ensures { (f g : ℕ → ℕ) → IsRenaming f g → (L : ℕ) (G : QGraph) (Rs : List (List Rule)) (lefts : List Left) (end : Ending)
+        → ((R : List Rule) → R ∈ Rs → (rule : Rule) → rule ∈ R → IsAccepted rule)
+        → Cascade L G Rs lefts end → Cascade L (renamed_graph f G) (map (map (renamed_rule f)) Rs) (map (renamed_left f) lefts) end }
 {}
