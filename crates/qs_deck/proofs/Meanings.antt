@@ -1,6 +1,6 @@
 -- What a written deck means, and how it is refused.
 use Rattle.std.proofs.Common.{◌≡◌, ℕ, ◌+◌, ◌≤◌, ◌<◌, List, [], ◌∷◌, ◌++◌, length, map, refl, sym, ◌∙◌, ap, subst, inl, inr, ◌⊎◌, arith, Option, Some, None}
-use Rattle.std.specs.Prelude.{IsCharBoundary, unwrap_or}
+use Rattle.std.specs.Prelude.{IsCharBoundary, unwrap_or, Result, Ok, Err, IfOk, IfErr, IsErr}
 use Rattle.std.specs.Str.{IsUtf8}
 use Rattle.std.specs.List.{All}
 use Rattle.std.proofs.lemmas.List.Elements.{All-head, All-tail}
@@ -34,7 +34,9 @@ use Rattle.qs_deck.specs.Written.{rules_of}
 use Rattle.qs_deck.specs.Named.{IsRuleNamed, AreSystemsNamed}
 use Rattle.qs_deck.specs.Decks.{Grammar, grammar_of, meaning_of, IsWritten}
 use Rattle.qs_deck.specs.Checks.{IsChecked, IsCheckFault, too_many_systems, rule_not_accepted}
-use Rattle.qs_deck.specs.Refusals.{IsGraphFault, too_many_arcs, cycle, entries, exits, IsFault, tokens, check, graph, IsRefusalOf}
+use Rattle.qs_deck.specs.Refusals.{IsGraphFault, too_many_arcs, cycle, entries, exits, IsFault, tokens, check, graph, IsRefusalOf, EndsFor}
+use Rattle.qs_deck.specs.declared.deck.DeckEnd.{DeckEnd}
+use Rattle.qs_deck.specs.declared.deck.DeckEnd.TheVariants as deck_end
 use Rattle.qs_deck.specs.Answers.{IsRefusedAt, EndsWithGraph}
 use Rattle.qs_deck.specs.Checked.{IsFirstFault}
 use Rattle.qs_deck.proofs.CheckSteps.{HasFewRules}
@@ -44,6 +46,17 @@ use Rattle.qs_deck.proofs.WhatIsRead.{systems_can, systems_few, systems_later, r
 -- a refusal at the place of a fault
 pub refused : (text : List ℕ) (at : ℕ) (cause : Cause) (r : Refusal) → IsFault text at cause → IsRefusedAt text at cause r → IsRefusalOf text r
 refused text at cause r fault is = record { place = at; fault = subst (IsFault text at) (sym is.cause_is) fault; line = is.line; column = is.column }
+
+-- a text that has no refusal is read, but for want of memory
+pub only_memory : {T : Type 0} (text : List ℕ) (r : Result T DeckEnd) → IfErr r (EndsFor text) → ((x : Refusal) → IsRefusalOf text x → ⊥) → IfErr r (λ end. end ≡ deck_end.Memory)
+only_memory text (Ok d) h none = tt
+only_memory text (Err (deck_end.Refused x)) h none = absurd (none x h)
+only_memory text (Err deck_end.Memory) h none = refl
+
+-- what can't be read isn't
+pub never_ok : {T E : Type 0} (P : T → Type 0) (r : Result T E) → IfOk r P → ((x : T) → P x → ⊥) → IsErr r
+never_ok P (Ok x) h none = absurd (none x h)
+never_ok P (Err e) h none = refl
 
 -- the same refusal, of a place and a cause that were read
 pub refused_as : (text : List ℕ) (at place : ℕ) (cause because : Cause) (r : Refusal) → at ≡ place → cause ≡ because → IsRefusedAt text at cause r → IsRefusedAt text place because r

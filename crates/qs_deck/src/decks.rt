@@ -1,18 +1,21 @@
 //! Decks, read from a text.
 
-ghost use Rattle.std.specs.Prelude.{◌≡◌, ◌≤◌, ◌^◌, ◌<◌, ℕ, [], IfOk, IfErr, IsCharBoundary, length, map};
+ghost use Rattle.std.specs.Prelude.{◌≡◌, ◌≤◌, ◌^◌, ◌<◌, ℕ, List, [], IfOk, IfErr, IsErr, IsCharBoundary, length, map};
 ghost use Rattle.std.specs.Str.{IsUtf8, IsValidUpTo};
 ghost use Rattle.qs_lex.specs.Tokens.{AreTokensOf, AreSpansFrom};
 ghost use Rattle.qs_lex.specs.Nesting.{IsTooDeep};
 ghost use Rattle.qs_lex.specs.Places.{line_of, column_of};
 ghost use Rattle.qs_graphtext.specs.GraphOfChains.{AreRefused};
-ghost use Rattle.qs_deck.specs.Decks.{grammar_of, IsDeckOf, IsWritten};
+ghost use Rattle.qs_graph.specs.Graphs.{QGraph};
+ghost use Rattle.qs_lex.specs.declared.refusal.Refusal.{Refusal};
+ghost use Rattle.qs_deck.specs.Decks.{Grammar, grammar_of, IsDeckOf, IsWritten};
 ghost use Rattle.qs_deck.specs.Checks.{IsChecked};
-ghost use Rattle.qs_deck.specs.Refusals.{byte_of, IsGraphFault, EndsFor};
+ghost use Rattle.qs_deck.specs.Refusals.{byte_of, IsGraphFault, IsRefusalOf, EndsFor};
 ghost use Rattle.qs_deck.specs.Answers.{IsRefusedAt, EndsWithGraph};
 
 use crate::checking::checked;
 use crate::deck::{Deck, DeckEnd};
+use crate::laws::one_answer;
 use crate::reading::read_written;
 use crate::written::WrittenDeck;
 use qs_check::CheckEnd;
@@ -130,12 +133,8 @@ fn deck_of_tokens(alloc: Global, text: &str, tokens: &[Token]) -> Result<Deck, D
     }
 }
 
-/// The deck that the text means, which has at most 4,194,304 bytes.
-///
-/// `Refused` comes exactly where the text isn't accepted, with the line, the column and the cause of its first fault. The
-/// bytes are looked at first, then tokens, nesting, syntax, the checks of grammars and rules, and at last the graph; the
-/// first of these that finds a fault answers. `Memory` may come for any text.
-pub fn read_deck(alloc: Global, bytes: &[u8]) -> Result<Deck, DeckEnd>
+/// The deck that the text means, or its first fault.
+fn deck_of_bytes(alloc: Global, bytes: &[u8]) -> Result<Deck, DeckEnd>
     requires { length bytes.now ≤ 4194304 }
     ensures deck { IfOk result (λ deck. IsDeckOf bytes.now deck.names (map grammar_of deck.systems.items) deck.graph) }
     ensures end { IfErr result (EndsFor bytes.now) }
@@ -149,4 +148,22 @@ pub fn read_deck(alloc: Global, bytes: &[u8]) -> Result<Deck, DeckEnd>
         Err(LexEnd::Refused(refusal)) => Err(DeckEnd::Refused(refusal)),
         Err(LexEnd::Memory) => Err(DeckEnd::Memory),
     }
+}
+
+/// The deck that the text means, which has at most 4,194,304 bytes.
+///
+/// `Refused` comes exactly where the text isn't accepted, with the line, the column and the cause of its first fault. The
+/// bytes are looked at first, then tokens, nesting, syntax, the checks of grammars and rules, and at last the graph; the
+/// first of these that finds a fault answers. `Memory` may come for any text.
+pub fn read_deck(alloc: Global, bytes: &[u8]) -> Result<Deck, DeckEnd>
+    requires { length bytes.now ≤ 4194304 }
+    ensures deck { IfOk result (λ deck. IsDeckOf bytes.now deck.names (map grammar_of deck.systems.items) deck.graph) }
+    ensures end { IfErr result (EndsFor bytes.now) }
+
+    // An accepted text is read, if memory lasts, and one that isn't accepted is refused for its first fault.
+    ensures accepted { (names : List (List ℕ)) (grammars : List Grammar) (graph : QGraph) → IsDeckOf bytes.now names grammars graph → IfErr result (λ end. end ≡ DeckEnd.Memory) }
+    ensures faulty { (refusal : Refusal) → IsRefusalOf bytes.now refusal → IsErr result }
+{
+    one_answer();
+    deck_of_bytes(alloc, bytes)
 }
