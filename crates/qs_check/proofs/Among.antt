@@ -9,8 +9,8 @@ use Rattle.qs_pattern.specs.declared.pattern.Head.{Head}
 use Rattle.qs_pattern.specs.declared.pattern.Head.TheVariants as head
 use Rattle.qs_pattern.specs.Variables.{same_var, firsts}
 use Rattle.qs_pattern.specs.Patterns.{head_variables}
-use Rattle.qs_pattern.proofs.VariableLemmas.{same_var-true, same_var-refl, from_firsts, in_firsts}
-use Rattle.qs_pattern.proofs.FirstOccurrences.{is_among, with_new, firsts-last}
+use Rattle.qs_pattern.proofs.VariableLemmas.{same_var-true, same_var-refl}
+use Rattle.qs_pattern.proofs.FirstOccurrences.{is_among, firsts-last}
 use Rattle.qs_check.specs.Cells.{variables_among}
 use Rattle.qs_check.proofs.Written.{variables_among-append}
 

@@ -1,7 +1,6 @@
 -- Where a first cause applies, and that there is only one.
-use Rattle.std.proofs.Common.{◌≡◌, ℕ, suc, ◌+◌, ◌<◌, ◌≤◌, ◌⊎◌, inl, inr, ⊎_elim, List, [], ◌∷◌, ◌++◌, length, take, drop, get_or, Option, Some, None, slice_get, refl, sym, ◌∙◌, ap, subst, arith, length-append}
+use Rattle.std.proofs.Common.{◌≡◌, ℕ, ◌+◌, ◌<◌, ◌≤◌, inl, ⊎_elim, List, [], ◌∷◌, ◌++◌, length, take, drop, Option, Some, None, slice_get, refl, sym, ◌∙◌, ap, subst, arith, length-append}
 use Rattle.std.specs.Prelude.{MatchOption}
-use Rattle.std.proofs.lemmas.Grind.{common_steps}
 use Rattle.std.proofs.lemmas.Bool.{cases_order}
 use Rattle.std.proofs.lemmas.List.{take-take, take_all}
 use Rattle.std.proofs.lemmas.Option.{slice_get_within, get_or_from_slice_get}
@@ -12,11 +11,11 @@ use Rattle.qs_pattern.specs.declared.variable.Var.{Var}
 use Rattle.qs_pattern.specs.declared.pattern.Head.{Head}
 use Rattle.qs_pattern.specs.declared.pattern.Head.TheVariants as head
 use Rattle.qs_pattern.specs.Variables.{firsts}
-use Rattle.qs_pattern.specs.Patterns.{Patterns, no_pattern, node_first, tree_var_first, forest_var_first, count, cells, head_variables, variables_in}
+use Rattle.qs_pattern.specs.Patterns.{Patterns, no_pattern, node_first, tree_var_first, forest_var_first, count, cells, variables_in}
 use Rattle.qs_pattern.specs.Rules.{Rule, IsAccepted, rule_cells, rule_variables, variables_behind}
-use Rattle.qs_check.specs.Cells.{written, written_rule, variables_among}
+use Rattle.qs_check.specs.Cells.{written_rule, variables_among}
 use Rattle.qs_ruletext.specs.Reading.{joined}
-use Rattle.qs_check.specs.Causes.{Has17th, HasShortSides, Has33rd, HasUnbound, IsFirstCause, left_too_long, right_too_long, too_many_cells, too_many_variables, unbound}
+use Rattle.qs_check.specs.Causes.{Has17th, Has33rd, HasUnbound, IsFirstCause, left_too_long, right_too_long, too_many_cells, too_many_variables, unbound}
 use Rattle.qs_pattern.proofs.VariableLemmas.{from_firsts}
 use Rattle.qs_check.proofs.Written.{length-rule, variables-rule, variables_among-append}
 use Rattle.qs_check.proofs.Among.{among-more, firsts_new, firsts-grow}

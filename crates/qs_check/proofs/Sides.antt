@@ -1,8 +1,8 @@
 -- The first patterns of a side, and those behind them.
-use Rattle.std.proofs.Common.{◌≡◌, ℕ, ◌+◌, ◌-◌, ◌<◌, ◌≤◌, List, [], ◌∷◌, ◌++◌, length, take, drop, refl, sym, ◌∙◌, ap, arith, length-drop}
+use Rattle.std.proofs.Common.{◌≡◌, ℕ, ◌<◌, List, [], ◌∷◌, ◌++◌, length, take, drop, refl, sym, ◌∙◌, ap, arith}
 use Rattle.std.proofs.lemmas.Grind.{common_steps}
 use Rattle.qs_pattern.specs.declared.pattern.Pattern.{Pattern, Node', Tree, Forest}
-use Rattle.qs_pattern.specs.Patterns.{Patterns, no_pattern, node_first, tree_var_first, forest_var_first, row_patterns, patterns, count, cells}
+use Rattle.qs_pattern.specs.Patterns.{node_first, tree_var_first, forest_var_first, row_patterns, patterns, count}
 use Rattle.qs_check.specs.Cells.{written}
 use Rattle.qs_ruletext.specs.Reading.{joined}
 use Rattle.qs_check.specs.Causes.{Has17th}

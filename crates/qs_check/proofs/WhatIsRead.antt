@@ -1,23 +1,22 @@
 -- What is read from tokens can be checked.
-use Rattle.std.proofs.Common.{◌≡◌, ℕ, ◌+◌, ◌≤◌, Bool, true, false, IsTrue, List, [], ◌∷◌, ◌++◌, length, map, Option, Some, None, refl, sym, ◌∙◌, ap, subst, arith}
-use Rattle.std.specs.Prelude.{if◌then◌else◌, filter, nat_le, ◌&&◌, ◌||◌, option_map}
+use Rattle.std.proofs.Common.{◌≡◌, ℕ, ◌+◌, ◌≤◌, Bool, true, false, IsTrue, List, [], ◌∷◌, ◌++◌, length, map, Option, refl, sym, ◌∙◌, ap, arith}
+use Rattle.std.specs.Prelude.{if◌then◌else◌, filter, nat_le, ◌&&◌, ◌||◌}
 use Rattle.std.proofs.lemmas.Bool.Decides.{nat_tests}
 use Rattle.qs_lex.specs.declared.token.Token.{Token}
 use Rattle.qs_lex.specs.declared.token.Kind.{Kind}
 use Rattle.qs_lex.specs.declared.token.Kind.TheVariants.{Bare, Quoted, Variable, Node as a_node, Word as a_word, Opening, Closing, Comma, Plus, Slash, Equals, Stop}
-use Rattle.qs_lex.specs.Grammar.{Sort, a_label, a_label_variable, a_tree_variable, a_forest_variable, sort_of, variable_sort, IsOf}
+use Rattle.qs_lex.specs.Grammar.{Sort, a_label, a_label_variable, a_tree_variable, a_forest_variable, sort_of, variable_sort}
 use Rattle.qs_lex.specs.Spelling.{IsLabelText}
 use Rattle.qs_pattern.specs.declared.variable.Var.{Var}
 use Rattle.qs_pattern.specs.declared.pattern.Head.{Head}
 use Rattle.qs_pattern.specs.declared.pattern.Head.TheVariants as head
 use Rattle.qs_pattern.specs.Letters.{is_variable_letter}
-use Rattle.qs_pattern.specs.Variables.{IsLabelVar, IsTreeVar, IsForestVar}
 use Rattle.qs_pattern.specs.Patterns.{Patterns, no_pattern, node_first, tree_var_first, forest_var_first, count, cells, AreInClass, IsHeadInClass, NoForestAtTop}
-use Rattle.qs_pattern.specs.Conditions.{Condition, Conditions, within, outside, negated, all, any, no_condition, condition_first, condition_cells, conditions_cells, IsConditionInClass, AreConditionsInClass, HasEnoughMembers, HaveEnoughMembers, count_conditions}
+use Rattle.qs_pattern.specs.Conditions.{Condition, Conditions, no_condition, condition_first, condition_cells, conditions_cells, IsConditionInClass, AreConditionsInClass, HasEnoughMembers, HaveEnoughMembers}
 use Rattle.qs_pattern.specs.Rules.{Rule, rule_cells, cells_if_given, IsInClassIfGiven, HasEnoughMembersIfGiven}
-use Rattle.qs_ruletext.specs.declared.raw.RawRule.{RawRule}
-use Rattle.qs_ruletext.specs.Reading.{IsLabelOf, IsVariableOf, IsHeadOf, joined, ReadsTree, reads_node, reads_tree_variable, ReadsSubtrees, no_parentheses, nothing_inside, list_inside, ReadsList, reads_list, ReadsMoreItems, no_more_items, one_more_item, ReadsItem, reads_tree, reads_forest_variable, ReadsMoreTrees, no_more_trees, one_more_tree, ReadsSide, reads_side, any_of, all_of, ReadsCond, reads_cond, ReadsMoreConjs, no_more_conjs, one_more_conj, ReadsConj, reads_conj, ReadsMoreNegs, no_more_negs, one_more_neg, ReadsNeg, not_negated, reads_negated, ReadsPrim, reads_group, reads_within, reads_outside}
-use Rattle.qs_ruletext.specs.Rules.{is_cell, cell_bytes, ReadsCondIfGiven, no_cond, some_cond, ReadsRule, reads_rule, rule_of, ReadsRawRule}
+use Rattle.qs_ruletext.specs.WrittenRules.{WrittenRule}
+use Rattle.qs_ruletext.specs.Reading.{IsVariableOf, IsHeadOf, joined, ReadsTree, reads_node, reads_tree_variable, ReadsSubtrees, no_parentheses, nothing_inside, list_inside, ReadsList, reads_list, ReadsMoreItems, no_more_items, one_more_item, ReadsItem, reads_tree, reads_forest_variable, ReadsMoreTrees, no_more_trees, one_more_tree, ReadsSide, reads_side, any_of, all_of, ReadsCond, reads_cond, ReadsMoreConjs, no_more_conjs, one_more_conj, ReadsConj, reads_conj, ReadsMoreNegs, no_more_negs, one_more_neg, ReadsNeg, not_negated, reads_negated, ReadsPrim, reads_group, reads_within, reads_outside}
+use Rattle.qs_ruletext.specs.Rules.{is_cell, cell_bytes, ReadsCondIfGiven, no_cond, some_cond, ReadsRule, reads_rule, ReadsWrittenRule}
 use Rattle.qs_check.specs.Checking.{CanBeChecked}
 use Rattle.qs_check.proofs.Limits.{cells-joined, count-joined}
 
@@ -330,7 +329,7 @@ module _ (names : List (List ℕ)) (text : List ℕ) where
         );
       }
 
-pub can_be_checked : (names : List (List ℕ)) (text : List ℕ) (ts : List Token) (raw : RawRule) (rest : List Token) → ReadsRawRule names text ts raw rest → CanBeChecked raw
+pub can_be_checked : (names : List (List ℕ)) (text : List ℕ) (ts : List Token) (raw : WrittenRule) (rest : List Token) → ReadsWrittenRule names text ts raw rest → CanBeChecked raw
 can_be_checked names text ts raw rest r =
     let g = rule_given names text r.rule in
     record {

@@ -4,7 +4,6 @@ ghost use Rattle.std.specs.Prelude.{◌≡◌, ◌++◌, option_map, IfOk, OnOk}
 ghost use Rattle.qs_pattern.specs.Patterns.{one_pattern, patterns};
 ghost use Rattle.qs_pattern.specs.Conditions.{condition_of};
 ghost use Rattle.qs_check.specs.Cells.{written, written_condition, written_if_given, written_rule};
-ghost use Rattle.qs_ruletext.specs.Rules.{rule_of};
 
 use qs_pattern::{Cond, Head, Pattern};
 use qs_ruletext::RawRule;
@@ -67,7 +66,7 @@ pub fn cells_of(alloc: Global, list: &[Pattern]) -> Result<Vec<Head>, AllocError
 
 /// The cells of the rule.
 pub fn cells_of_rule(alloc: Global, raw: &RawRule) -> Result<Vec<Head>, AllocError>
-    ensures { IfOk result (λ v. v.items ≡ written_rule (rule_of raw.now)) }
+    ensures { IfOk result (λ v. v.items ≡ written_rule raw.now.rule) }
 {
     let mut out = cells_of(alloc, &raw.left)?;
     add_patterns(&raw.right, &mut out)?;

@@ -3,7 +3,6 @@
 ghost use Rattle.std.specs.Prelude.{◌≡◌, IfOk, IfErr, MatchOption};
 ghost use Rattle.qs_pattern.specs.Rules.{IsAccepted};
 ghost use Rattle.qs_check.specs.Causes.{IsFirstCause};
-ghost use Rattle.qs_ruletext.specs.Rules.{rule_of};
 ghost use Rattle.qs_check.specs.Checking.{CanBeChecked, EndsWith};
 
 use crate::causes::{first_of_33rd, first_unbound, root_of_17th};
@@ -47,7 +46,7 @@ impl<T: Drop> From<AllocFailed<T>> for CheckEnd {
 // The first cause why the rule isn't accepted, and the number of its cell. None where the rule is accepted.
 fn first_cause(alloc: Global, raw: &RawRule) -> Result<Option<(Cause, usize)>, AllocError>
     requires { CanBeChecked raw.now }
-    ensures { IfOk result (λ o. MatchOption o (IsAccepted (rule_of raw.now)) (λ p. IsFirstCause (rule_of raw.now) p.0 p.1)) }
+    ensures { IfOk result (λ o. MatchOption o (IsAccepted raw.now.rule) (λ p. IsFirstCause raw.now.rule p.0 p.1)) }
 {
     if let Some(place) = root_of_17th(alloc, &raw.left)? {
         return Ok(Some((Cause::SideTooLong, place)));
@@ -76,7 +75,7 @@ fn first_cause(alloc: Global, raw: &RawRule) -> Result<Option<(Cause, usize)>, A
 /// in the left side. A rule that isn't accepted is dropped.
 pub fn check(alloc: Global, raw: RawRule) -> Result<Rule, CheckEnd>
     requires { CanBeChecked raw }
-    ensures rule { IfOk result (λ rule. rule ≡ rule_of raw) }
+    ensures rule { IfOk result (λ rule. rule ≡ raw.rule) }
     ensures accepted { IfOk result IsAccepted }
     ensures refused { IfErr result (EndsWith raw) }
 {

@@ -4,8 +4,8 @@ ghost use Rattle.std.specs.Prelude.{ℕ, List, ◌≡◌};
 ghost use Rattle.qs_lex.specs.declared.refusal.Cause.{Cause};
 ghost use Rattle.qs_pattern.specs.Rules.{Rule, IsAccepted};
 ghost use Rattle.qs_lex.specs.declared.token.Token.{Token};
-ghost use Rattle.qs_ruletext.specs.declared.raw.RawRule.{RawRule};
-ghost use Rattle.qs_ruletext.specs.Rules.{ReadsRawRule};
+ghost use Rattle.qs_ruletext.specs.WrittenRules.{WrittenRule};
+ghost use Rattle.qs_ruletext.specs.Rules.{ReadsWrittenRule};
 ghost use Rattle.qs_check.specs.Causes.{IsFirstCause};
 ghost use Rattle.qs_check.specs.Checking.{CanBeChecked};
 
@@ -18,5 +18,5 @@ pub fn one_first_cause()
 
 /// Each rule that is read from tokens can be checked.
 pub fn what_is_read_can_be_checked()
-    ensures { (names : List (List ℕ)) (text : List ℕ) (tokens : List Token) (raw : RawRule) (rest : List Token) → ReadsRawRule names text tokens raw rest → CanBeChecked raw }
+    ensures { (names : List (List ℕ)) (text : List ℕ) (tokens : List Token) (raw : WrittenRule) (rest : List Token) → ReadsWrittenRule names text tokens raw rest → CanBeChecked raw }
 {}

@@ -1,21 +1,20 @@
 -- What a written deck means, and how it is refused.
-use Rattle.std.proofs.Common.{◌≡◌, ℕ, ◌+◌, ◌≤◌, ◌<◌, List, [], ◌∷◌, ◌++◌, length, map, refl, sym, ◌∙◌, ap, subst, inl, inr, ◌⊎◌, arith, Option, Some, None}
+use Rattle.std.proofs.Common.{◌≡◌, ℕ, ◌≤◌, ◌<◌, List, [], ◌∷◌, length, map, refl, sym, ap, subst, inl, inr, arith, Option, Some, None}
 use Rattle.std.specs.Prelude.{IsCharBoundary, unwrap_or, Result, Ok, Err, IfOk, IfErr, IsErr}
 use Rattle.std.specs.Str.{IsUtf8}
 use Rattle.std.specs.List.{All}
 use Rattle.std.proofs.lemmas.List.Elements.{All-head, All-tail}
 use Rattle.qs_tree.specs.Lists.{◌∈◌}
 use Rattle.qs_tree.proofs.Members.{in_append_right, in_map, from_map, in_at}
-use Rattle.qs_lex.specs.declared.token.Token.{Token}
 use Rattle.qs_lex.specs.declared.refusal.Cause.{Cause}
-use Rattle.qs_lex.specs.declared.refusal.Cause.TheVariants.{TooManySystems, TooManyArcs, Cycle, Entries, Exits}
+use Rattle.qs_lex.specs.declared.refusal.Cause.TheVariants.{TooManySystems}
 use Rattle.qs_lex.specs.declared.refusal.Refusal.{Refusal}
 use Rattle.qs_lex.specs.Refusals as lexing
 use Rattle.qs_pattern.specs.Conditions.{Condition}
 use Rattle.qs_pattern.specs.Named.{IsNamedIfGiven}
 use Rattle.qs_pattern.specs.Rules.{Rule}
-use Rattle.qs_ruletext.specs.declared.raw.RawRule.{RawRule}
-use Rattle.qs_ruletext.specs.Rules.{IsWellRead, IsWellReadIfGiven, rule_of}
+use Rattle.qs_ruletext.specs.WrittenRules.{WrittenRule}
+use Rattle.qs_ruletext.specs.Rules.{IsWellRead, IsWellReadIfGiven}
 use Rattle.qs_check.specs.Checking.{CanBeChecked}
 use Rattle.qs_check.specs.declared.checking.CheckEnd.TheVariants.{Refused}
 use Rattle.qs_graphtext.specs.WrittenChains.{WrittenChain}
@@ -27,10 +26,8 @@ use Rattle.qs_graphtext.specs.declared.chain_end.ChainEnd.TheVariants as chain_e
 use Rattle.qs_graphtext.proofs.Bytes.{byte_of_graph, whole_graph, some_chain}
 use Rattle.qs_graphtext.proofs.Places.{graph_named}
 use Rattle.qs_graphtext.proofs.TreesLaid.{trees_laid, named_laid}
-use Rattle.qs_deck.specs.declared.written.WrittenSystem.{WrittenSystem}
-use Rattle.qs_deck.specs.declared.written.WrittenDeck.{WrittenDeck}
+use Rattle.qs_deck.specs.WrittenDecks.{WrittenSystem, WrittenDeck, rules_of}
 use Rattle.qs_deck.specs.declared.system.System.{System}
-use Rattle.qs_deck.specs.Written.{rules_of}
 use Rattle.qs_deck.specs.Named.{IsRuleNamed, AreSystemsNamed}
 use Rattle.qs_deck.specs.Decks.{Grammar, grammar_of, meaning_of, IsWritten}
 use Rattle.qs_deck.specs.Checks.{IsChecked, IsCheckFault, too_many_systems, rule_not_accepted}
@@ -73,8 +70,8 @@ all_member P [] x h i = elim i [ ]
 all_member P (y ∷ ys) x h (inl e) = subst P (sym e) (All-head P y ys h)
 all_member P (y ∷ ys) x h (inr i) = all_member P ys x (All-tail P y ys h) i
 
-rule_named : (n : ℕ) (raw : RawRule) → IsWellRead n (rule_of raw) → IsRuleNamed n (rule_of raw)
-rule_named n raw w = record { left = w.left.named; right = w.right.named; condition = if_given (rule_of raw).condition w.condition }
+rule_named : (n : ℕ) (raw : WrittenRule) → IsWellRead n raw.rule → IsRuleNamed n raw.rule
+rule_named n raw w = record { left = w.left.named; right = w.right.named; condition = if_given raw.rule.condition w.condition }
   where
     if_given : (o : Option Condition) → IsWellReadIfGiven n o → IsNamedIfGiven n o
     if_given None h = tt
@@ -85,45 +82,45 @@ abbrev IsGrammarNamed : ℕ → Grammar → Type 0
 IsGrammarNamed n g = (g.name.0 < n) × ((rule : Rule) → rule ∈ g.rules → IsRuleNamed n rule)
 
 module _ (text : List ℕ) (names : List (List ℕ)) (deck : WrittenDeck) (w : IsWritten text names deck) where
-  pub can : All CanBeChecked (rules_of deck.systems.items)
-  can = systems_can names text w.tokens (w.reads.first ∷ w.reads.behind) deck.systems.items w.reads.systems
+  pub can : All CanBeChecked (rules_of deck.systems)
+  can = systems_can names text w.tokens (w.reads.first ∷ w.reads.behind) deck.systems w.reads.systems
 
-  pub few : length text ≤ 4194304 → All HasFewRules deck.systems.items
+  pub few : length text ≤ 4194304 → All HasFewRules deck.systems
   few short =
-      systems_few names text w.tokens (w.reads.first ∷ w.reads.behind) deck.systems.items w.reads.systems
+      systems_few names text w.tokens (w.reads.first ∷ w.reads.behind) deck.systems w.reads.systems
       (omega (arith, short, few_tokens text 0 w.tokens (spans text w.tokens w.has_tokens) (omega (arith))))
 
   border : (byte : ℕ) → IsByteOf w.tokens byte → IsCharBoundary text byte
   border byte b = byte_border text w.tokens byte (spans text w.tokens w.has_tokens) b
 
   -- the checks
-  check_byte : (cause : Cause) (at : ℕ) → IsFirstFault deck.systems.items (Refused cause at) → IsByteOf w.tokens at
+  check_byte : (cause : Cause) (at : ℕ) → IsFirstFault deck.systems (Refused cause at) → IsByteOf w.tokens at
   check_byte cause at (inl x) =
-      subst (IsByteOf w.tokens) (sym x.3) (word_byte names text w.tokens (w.reads.first ∷ w.reads.behind) deck.systems.items w.reads.systems x.0 (in_at deck.systems.items 256 x.0 x.1))
+      subst (IsByteOf w.tokens) (sym x.3) (word_byte names text w.tokens (w.reads.first ∷ w.reads.behind) deck.systems w.reads.systems x.0 (in_at deck.systems 256 x.0 x.1))
   check_byte cause at (inr x) =
       let f = x.1 in
       let among = subst (λ raws. f.raw ∈ raws) (sym f.are) (in_append_right f.front (f.raw ∷ f.behind) f.raw (inl refl)) in
-      rule_byte names text w.tokens (w.reads.first ∷ w.reads.behind) deck.systems.items w.reads.systems f.raw among at (in_at f.raw.at.items f.ends.0 at f.ends.2)
+      rule_byte names text w.tokens (w.reads.first ∷ w.reads.behind) deck.systems w.reads.systems f.raw among at (in_at f.raw.at f.ends.0 at f.ends.2)
 
-  check_fault : (cause : Cause) (at : ℕ) → IsFirstFault deck.systems.items (Refused cause at) → IsCheckFault deck at cause
+  check_fault : (cause : Cause) (at : ℕ) → IsFirstFault deck.systems (Refused cause at) → IsCheckFault deck at cause
   check_fault cause at (inl x) = subst (IsCheckFault deck at) (sym x.2) (subst (λ b. IsCheckFault deck b TooManySystems) (sym x.3) (too_many_systems x.0 x.1))
   check_fault cause at (inr x) = rule_not_accepted x.1.front x.1.behind x.1.raw x.0 x.1.are x.1.accepted x.1.ends
 
-  pub check_border : (cause : Cause) (at : ℕ) → IsFirstFault deck.systems.items (Refused cause at) → IsCharBoundary text at
+  pub check_border : (cause : Cause) (at : ℕ) → IsFirstFault deck.systems (Refused cause at) → IsCharBoundary text at
   check_border cause at f = border at (check_byte cause at f)
 
-  pub check_refused : (cause : Cause) (at : ℕ) (r : Refusal) → IsFirstFault deck.systems.items (Refused cause at) → IsRefusedAt text at cause r → IsRefusalOf text r
+  pub check_refused : (cause : Cause) (at : ℕ) (r : Refusal) → IsFirstFault deck.systems (Refused cause at) → IsRefusedAt text at cause r → IsRefusalOf text r
   check_refused cause at r f is = refused text at cause r (check names deck w (check_fault cause at f)) is
 
   -- the graph
-  pub chains_some : 0 < length deck.chains.items
+  pub chains_some : 0 < length deck.chains
   chains_some = some_chain w.reads.graph
 
-  pub chains_whole : (chain : WrittenChain) → chain ∈ deck.chains.items → IsWhole chain
+  pub chains_whole : (chain : WrittenChain) → chain ∈ deck.chains → IsWhole chain
   chains_whole = whole_graph w.reads.graph
 
   byte_behind : (byte : ℕ) → IsByteOf (w.reads.first ∷ w.reads.behind) byte → IsByteOf w.tokens byte
-  byte_behind byte b = (b.0, systems_later names text w.tokens (w.reads.first ∷ w.reads.behind) deck.systems.items w.reads.systems b.0 b.1, b.2)
+  byte_behind byte b = (b.0, systems_later names text w.tokens (w.reads.first ∷ w.reads.behind) deck.systems w.reads.systems b.0 b.1, b.2)
 
   word_of_graph : IsByteOf w.tokens deck.graph_at
   word_of_graph = byte_behind deck.graph_at (w.reads.first, inl refl, sym w.reads.graph_at)
@@ -131,31 +128,31 @@ module _ (text : List ℕ) (names : List (List ℕ)) (deck : WrittenDeck) (w : I
   told : {a b : ℕ} {c d : Cause} → ◌≡◌ {A = Option (ℕ × Cause)} (Some (a, c)) (Some (b, d)) → IsByteOf w.tokens b × IsGraphFault deck b d → IsByteOf w.tokens a × IsGraphFault deck a c
   told {a} {b} {c} {d} e x = subst (λ (q : ℕ × Cause). IsByteOf w.tokens q.0 × IsGraphFault deck q.0 q.1) (sym (ap (λ o. unwrap_or o (a, c)) e)) x
 
-  graph_answer : (end : ChainEnd) (at : ℕ) (cause : Cause) → EndsWithGraph deck.graph_at end (Some (at, cause)) → AreRefused deck.chains.items end → IsByteOf w.tokens at × IsGraphFault deck at cause
+  graph_answer : (end : ChainEnd) (at : ℕ) (cause : Cause) → EndsWithGraph deck.graph_at end (Some (at, cause)) → AreRefused deck.chains end → IsByteOf w.tokens at × IsGraphFault deck at cause
   graph_answer (chain_end.TooManyArcs a) at cause e h =
-      told e (byte_behind a (byte_of_graph w.reads.graph a (in_at (places_in deck.chains.items) 65536 a h.1)), too_many_arcs h)
+      told e (byte_behind a (byte_of_graph w.reads.graph a (in_at (places_in deck.chains) 65536 a h.1)), too_many_arcs h)
   graph_answer chain_end.Cycle at cause e h = told e (word_of_graph, cycle h)
   graph_answer chain_end.Entries at cause e h = told e (word_of_graph, entries h)
   graph_answer chain_end.Exits at cause e h = told e (word_of_graph, exits h)
   graph_answer chain_end.Memory at cause e h = absurd cc
 
-  pub graph_border : (end : ChainEnd) (at : ℕ) (cause : Cause) → EndsWithGraph deck.graph_at end (Some (at, cause)) → AreRefused deck.chains.items end → IsCharBoundary text at
+  pub graph_border : (end : ChainEnd) (at : ℕ) (cause : Cause) → EndsWithGraph deck.graph_at end (Some (at, cause)) → AreRefused deck.chains end → IsCharBoundary text at
   graph_border end at cause e h = border at (graph_answer end at cause e h).0
 
-  pub graph_refused : IsChecked deck → (end : ChainEnd) (at : ℕ) (cause : Cause) (r : Refusal) → EndsWithGraph deck.graph_at end (Some (at, cause)) → AreRefused deck.chains.items end → IsRefusedAt text at cause r
+  pub graph_refused : IsChecked deck → (end : ChainEnd) (at : ℕ) (cause : Cause) (r : Refusal) → EndsWithGraph deck.graph_at end (Some (at, cause)) → AreRefused deck.chains end → IsRefusedAt text at cause r
       → IsRefusalOf text r
   graph_refused checked end at cause r e h is = refused text at cause r (graph names deck w checked (graph_answer end at cause e h).1) is
 
   -- the names
-  meaning_named : (system : WrittenSystem) → system ∈ deck.systems.items → IsGrammarNamed (length names) (meaning_of system)
+  meaning_named : (system : WrittenSystem) → system ∈ deck.systems → IsGrammarNamed (length names) (meaning_of system)
   meaning_named system i =
-      let x = systems_named names text w.tokens (w.reads.first ∷ w.reads.behind) deck.systems.items w.reads.systems system i in
-      (x.0, from_map rule_of system.rules.items (IsRuleNamed (length names)) (λ raw j. rule_named (length names) raw (all_member (λ (r : RawRule). IsWellRead (length names) (rule_of r)) system.rules.items raw x.1 j)))
+      let x = systems_named names text w.tokens (w.reads.first ∷ w.reads.behind) deck.systems w.reads.systems system i in
+      (x.0, from_map (λ (r : WrittenRule). r.rule) system.rules (IsRuleNamed (length names)) (λ raw j. rule_named (length names) raw (all_member (λ (r : WrittenRule). IsWellRead (length names) r.rule) system.rules raw x.1 j)))
 
-  pub grammars_named : (systems : List System) → map grammar_of systems ≡ map meaning_of deck.systems.items → AreSystemsNamed (length names) systems
+  pub grammars_named : (systems : List System) → map grammar_of systems ≡ map meaning_of deck.systems → AreSystemsNamed (length names) systems
   grammars_named systems e system i =
-      let named = from_map meaning_of deck.systems.items (IsGrammarNamed (length names)) meaning_named (grammar_of system) (subst (λ gs. grammar_of system ∈ gs) e (in_map grammar_of systems system i)) in
+      let named = from_map meaning_of deck.systems (IsGrammarNamed (length names)) meaning_named (grammar_of system) (subst (λ gs. grammar_of system ∈ gs) e (in_map grammar_of systems system i)) in
       record { name = named.0; rules = named.1 }
 
-  pub arcs_named : AreArcsNamed (length names) (graph_of deck.chains.items).arcs
-  arcs_named = named_laid (length names) deck.chains.items (graph_of deck.chains.items).arcs (trees_laid (dense (numbers_in deck.chains.items)) (record { nodes = different (numbers_in deck.chains.items); arcs = [] }) deck.chains.items) (graph_named w.reads.graph)
+  pub arcs_named : AreArcsNamed (length names) (graph_of deck.chains).arcs
+  arcs_named = named_laid (length names) deck.chains (graph_of deck.chains).arcs (trees_laid (dense (numbers_in deck.chains)) (record { nodes = different (numbers_in deck.chains); arcs = [] }) deck.chains) (graph_named w.reads.graph)

@@ -1,5 +1,5 @@
 -- A text has one first fault, and none where it is a deck.
-use Rattle.std.proofs.Common.{◌≡◌, ℕ, zero, suc, ◌<◌, ◌≤◌, refl, sym, ◌∙◌, ap, subst, ⊎_elim, List, [], ◌∷◌, ◌++◌, length, take, Some, slice_get, arith}
+use Rattle.std.proofs.Common.{◌≡◌, ℕ, zero, suc, ◌<◌, ◌≤◌, refl, sym, ◌∙◌, ap, subst, ⊎_elim, List, [], ◌∷◌, ◌++◌, length, map, take, Some, slice_get, arith}
 use Rattle.std.proofs.lemmas.Bool.{cases_order}
 use Rattle.std.proofs.lemmas.List.{take_all}
 use Rattle.std.proofs.lemmas.List.Elements.{All-head, All-tail}
@@ -15,32 +15,27 @@ use Rattle.qs_lex.proofs.Expected.{whole_begins}
 use Rattle.qs_lex.proofs.Readings as readings
 use Rattle.qs_tree.specs.Names.{AreDistinct}
 use Rattle.qs_pattern.specs.Rules.{IsAccepted}
-use Rattle.qs_ruletext.specs.declared.raw.RawRule.{RawRule}
-use Rattle.qs_ruletext.specs.Rules.{rule_of}
+use Rattle.qs_ruletext.specs.WrittenRules.{WrittenRule}
 use Rattle.qs_ruletext.specs.Names.{NamesGrow}
 use Rattle.qs_ruletext.proofs.Naming.{one_growth, grow_distinct}
 use Rattle.qs_check.specs.declared.checking.CheckEnd.TheVariants.{Refused}
-use Rattle.qs_check.specs.Causes.{IsFirstCause}
 use Rattle.qs_check.specs.Checking.{EndsWith}
 use Rattle.qs_check.proofs.Limits.{one_cause, none_if_accepted}
 use Rattle.qs_graph.specs.Graphs.{QGraph, IsValid}
 use Rattle.qs_graphtext.specs.WrittenChains.{WrittenChain}
 use Rattle.qs_graphtext.specs.GraphOfChains.{AreFew, AreRefused, graph_of}
-use Rattle.qs_graphtext.specs.declared.chain_end.ChainEnd.{ChainEnd}
 use Rattle.qs_graphtext.specs.declared.chain_end.ChainEnd.TheVariants as chain_end
-use Rattle.qs_deck.specs.declared.written.WrittenSystem.{WrittenSystem}
-use Rattle.qs_deck.specs.declared.written.WrittenDeck.{WrittenDeck}
+use Rattle.qs_deck.specs.WrittenDecks.{WrittenSystem, WrittenDeck}
 use Rattle.qs_deck.specs.Grammar.{deck, line}
-use Rattle.qs_deck.specs.Written.{rules_in}
 use Rattle.qs_deck.specs.Reading.{ReadsDeck}
 use Rattle.qs_deck.specs.Syntax.{CannotGoOn}
 use Rattle.qs_deck.specs.Checked.{AreAccepted}
 use Rattle.qs_deck.specs.Checks.{IsChecked, IsCheckFault, too_many_systems, rule_not_accepted}
-use Rattle.qs_deck.specs.Decks.{Grammar, HasTokens, IsWritten, IsDeckOf}
+use Rattle.qs_deck.specs.Decks.{Grammar, meaning_of, HasTokens, IsWritten, IsDeckOf}
 use Rattle.qs_deck.specs.Refusals.{byte_of, IsFirstTooDeep, IsGraphFault, too_many_arcs, cycle, entries, exits, IsFault, bytes, tokens, nesting, syntax, check, graph, IsRefusalOf}
 use Rattle.qs_deck.proofs.Fronts.{front_begins}
 use Rattle.qs_deck.proofs.WholeDecks.{deck_whole}
-use Rattle.qs_deck.proofs.OneDeck.{AreSameRules, AreSameDecks, one_deck, same_meanings, same_length, same_bytes, same_rules_in}
+use Rattle.qs_deck.proofs.OneDeck.{one_deck}
 
 -- ---- nesting
 
@@ -85,104 +80,93 @@ never_whole ts i stops whole =
 
 -- ---- checks
 
-accepted_first : (raw : RawRule) (raws : List RawRule) → AreAccepted (raw ∷ raws) → IsAccepted (rule_of raw)
-accepted_first raw raws all = All-head (λ r. IsAccepted (rule_of r)) raw raws all
+accepted_first : (raw : WrittenRule) (raws : List WrittenRule) → AreAccepted (raw ∷ raws) → IsAccepted raw.rule
+accepted_first raw raws all = All-head (λ r. IsAccepted r.rule) raw raws all
 
-accepted_rest : (raw : RawRule) (raws : List RawRule) → AreAccepted (raw ∷ raws) → AreAccepted raws
-accepted_rest raw raws all = All-tail (λ r. IsAccepted (rule_of r)) raw raws all
+accepted_rest : (raw : WrittenRule) (raws : List WrittenRule) → AreAccepted (raw ∷ raws) → AreAccepted raws
+accepted_rest raw raws all = All-tail (λ r. IsAccepted r.rule) raw raws all
 
 -- a rule that is accepted isn't refused
-not_refused : (r s : RawRule) (cause : Cause) (at : ℕ) → rule_of r ≡ rule_of s → IsAccepted (rule_of r) → EndsWith s (Refused cause at) → ⊥
-not_refused r s cause at same accepted ends =
-    none_if_accepted (rule_of s) cause ends.0 (subst IsAccepted same accepted) ends.1
+not_refused : (r : WrittenRule) (cause : Cause) (at : ℕ) → IsAccepted r.rule → EndsWith r (Refused cause at) → ⊥
+not_refused r cause at accepted ends = none_if_accepted r.rule cause ends.0 accepted ends.1
 
-one_end : (r s : RawRule) (c d : Cause) (p q : ℕ) → rule_of r ≡ rule_of s → r.at.items ≡ s.at.items → EndsWith r (Refused c p) → EndsWith s (Refused d q) → (p ≡ q) × (c ≡ d)
-one_end r s c d p q same places a b =
-    let one = one_cause (rule_of r) c d a.0 b.0 a.1 (subst (λ rule. IsFirstCause rule d b.0) (sym same) b.1) in
-    let here : slice_get r.at.items a.0 ≡ slice_get s.at.items b.0 = λ i. slice_get (places i) (one.1 i) in
-    let found : Some p ≡ Some q = sym a.2 ∙ here ∙ b.2 in
+one_end : (r : WrittenRule) (c d : Cause) (p q : ℕ) → EndsWith r (Refused c p) → EndsWith r (Refused d q) → (p ≡ q) × (c ≡ d)
+one_end r c d p q a b =
+    let one = one_cause r.rule c d a.0 b.0 a.1 b.1 in
+    let found : Some p ≡ Some q = sym a.2 ∙ ap (λ k. slice_get r.at k) one.1 ∙ b.2 in
     (cc, one.0)
 
--- the first rule that isn't accepted is one, also where the same rules were read twice
-first_refused : (front others behind more : List RawRule) (r s : RawRule) (c d : Cause) (p q : ℕ) → AreSameRules (front ++ r ∷ behind) (others ++ s ∷ more)
+-- the first rule that isn't accepted is one
+first_refused : (front others behind more : List WrittenRule) (r s : WrittenRule) (c d : Cause) (p q : ℕ) → front ++ r ∷ behind ≡ others ++ s ∷ more
     → AreAccepted front → AreAccepted others → EndsWith r (Refused c p) → EndsWith s (Refused d q) → (p ≡ q) × (c ≡ d)
-first_refused [] [] behind more r s c d p q same ok also a b = one_end r s c d p q same.0 same.1 a b
-first_refused [] (x ∷ others) behind more r s c d p q same ok also a b = absurd (not_refused x r c p (sym same.0) (accepted_first x others also) a)
-first_refused (x ∷ front) [] behind more r s c d p q same ok also a b = absurd (not_refused x s d q same.0 (accepted_first x front ok) b)
+first_refused [] [] behind more r s c d p q same ok also a b =
+    let here : s ≡ r = cc in one_end r c d p q a (subst (λ (raw : WrittenRule). EndsWith raw (Refused d q)) here b)
+first_refused [] (x ∷ others) behind more r s c d p q same ok also a b =
+    let here : r ≡ x = cc in absurd (not_refused x c p (accepted_first x others also) (subst (λ (raw : WrittenRule). EndsWith raw (Refused c p)) here a))
+first_refused (x ∷ front) [] behind more r s c d p q same ok also a b =
+    let here : s ≡ x = cc in absurd (not_refused x d q (accepted_first x front ok) (subst (λ (raw : WrittenRule). EndsWith raw (Refused d q)) here b))
 first_refused (x ∷ front) (y ∷ others) behind more r s c d p q same ok also a b =
-    first_refused front others behind more r s c d p q same.2 (accepted_rest x front ok) (accepted_rest y others also) a b
+    let rest : front ++ r ∷ behind ≡ others ++ s ∷ more = cc in
+    first_refused front others behind more r s c d p q rest (accepted_rest x front ok) (accepted_rest y others also) a b
 
-none_refused : (raws front behind : List RawRule) (r : RawRule) (c : Cause) (p : ℕ) → AreSameRules raws (front ++ r ∷ behind) → AreAccepted raws → EndsWith r (Refused c p) → ⊥
-none_refused [] [] behind r c p same ok ends = same
-none_refused [] (x ∷ front) behind r c p same ok ends = same
-none_refused (x ∷ raws) [] behind r c p same ok ends = not_refused x r c p same.0 (accepted_first x raws ok) ends
-none_refused (x ∷ raws) (y ∷ front) behind r c p same ok ends = none_refused raws front behind r c p same.2 (accepted_rest x raws ok) ends
+none_refused : (front behind : List WrittenRule) (r : WrittenRule) (c : Cause) (p : ℕ) → AreAccepted (front ++ r ∷ behind) → EndsWith r (Refused c p) → ⊥
+none_refused [] behind r c p ok ends = not_refused r c p (accepted_first r behind ok) ends
+none_refused (x ∷ front) behind r c p ok ends = none_refused front behind r c p (accepted_rest x (front ++ r ∷ behind) ok) ends
 
-not_many : (d e : WrittenDeck) (system : WrittenSystem) → AreSameDecks d e → slice_get d.systems.items 256 ≡ Some system → length e.systems.items ≤ 256 → ⊥
-not_many d e system same there few =
-    omega (arith, slice_get_within d.systems.items 256 system there, same_length d.systems.items e.systems.items same.systems)
+not_many : (d : WrittenDeck) (system : WrittenSystem) → slice_get d.systems 256 ≡ Some system → length d.systems ≤ 256 → ⊥
+not_many d system there few = omega (arith, slice_get_within d.systems 256 system there)
 
-not_many_behind : (d e : WrittenDeck) (system : WrittenSystem) → AreSameDecks d e → slice_get e.systems.items 256 ≡ Some system → length d.systems.items ≤ 256 → ⊥
-not_many_behind d e system same there few =
-    omega (arith, slice_get_within e.systems.items 256 system there, same_length d.systems.items e.systems.items same.systems)
+one_check : (d : WrittenDeck) {p q : ℕ} {c f : Cause} → IsCheckFault d p c → IsCheckFault d q f → (p ≡ q) × (c ≡ f)
+one_check d (too_many_systems a there) (too_many_systems b also) =
+    let found : Some a ≡ Some b = sym there ∙ also in
+    let same : a ≡ b = cc in
+    (ap (λ (s : WrittenSystem). s.at) same, refl)
+one_check d (too_many_systems a there) (rule_not_accepted front behind raw few are ok ends) = absurd (not_many d a there few)
+one_check d (rule_not_accepted front behind raw few are ok ends) (too_many_systems b also) = absurd (not_many d b also few)
+one_check d (rule_not_accepted front behind raw {at} {cause} few are ok ends) (rule_not_accepted others more rule {at = place} {cause = other} fewer is also stops) =
+    first_refused front others behind more raw rule cause other at place (sym are ∙ is) ok also ends stops
 
-one_check : (d e : WrittenDeck) {p q : ℕ} {c f : Cause} → AreSameDecks d e → IsCheckFault d p c → IsCheckFault e q f → (p ≡ q) × (c ≡ f)
-one_check d e same (too_many_systems a there) (too_many_systems b also) = (same_bytes d.systems.items e.systems.items 256 a b same.systems there also, refl)
-one_check d e same (too_many_systems a there) (rule_not_accepted front behind raw few are ok ends) = absurd (not_many d e a same there few)
-one_check d e same (rule_not_accepted front behind raw few are ok ends) (too_many_systems b also) = absurd (not_many_behind d e b same also few)
-one_check d e same (rule_not_accepted front behind raw {at} {cause} few are ok ends) (rule_not_accepted others more rule {at = place} {cause = other} fewer is also stops) =
-    let rules = same_rules_in d.systems.items e.systems.items same.systems in
-    let moved = subst (λ rs. AreSameRules rs (rules_in e)) are rules in
-    let both = subst (λ rs. AreSameRules (front ++ raw ∷ behind) rs) is moved in
-    first_refused front others behind more raw rule cause other at place both ok also ends stops
-
-not_checked : (d e : WrittenDeck) {p : ℕ} {c : Cause} → AreSameDecks d e → IsChecked d → IsCheckFault e p c → ⊥
-not_checked d e same ok (too_many_systems a there) = not_many_behind d e a same there ok.few
-not_checked d e same ok (rule_not_accepted front behind raw {at} {cause} few are good ends) =
-    let rules = same_rules_in d.systems.items e.systems.items same.systems in
-    none_refused (rules_in d) front behind raw cause at (subst (λ rs. AreSameRules (rules_in d) rs) are rules) ok.accepted ends
+not_checked : (d : WrittenDeck) {p : ℕ} {c : Cause} → IsChecked d → IsCheckFault d p c → ⊥
+not_checked d ok (too_many_systems a there) = not_many d a there ok.few
+not_checked d ok (rule_not_accepted front behind raw {at} {cause} few are good ends) = none_refused front behind raw cause at (subst AreAccepted are ok.accepted) ends
 
 -- ---- graphs
 
 not_few : (chains : List WrittenChain) (at : ℕ) → AreRefused chains (chain_end.TooManyArcs at) → AreFew chains → ⊥
 not_few chains at many few = omega (arith, many.0, few)
 
-moved : (d e : WrittenDeck) (end : ChainEnd) → AreSameDecks d e → AreRefused e.chains.items end → AreRefused d.chains.items end
-moved d e end same refused = subst (λ chains. AreRefused chains end) (sym same.chains) refused
-
-one_graph_fault : (d e : WrittenDeck) {p q : ℕ} {c f : Cause} → AreSameDecks d e → IsGraphFault d p c → IsGraphFault e q f → (p ≡ q) × (c ≡ f)
-one_graph_fault d e same (too_many_arcs {at} a) (too_many_arcs {at = place} b) =
-    let also = moved d e (chain_end.TooManyArcs place) same b in
-    let found : Some at ≡ Some place = sym a.1 ∙ also.1 in
+one_graph_fault : (d : WrittenDeck) {p q : ℕ} {c f : Cause} → IsGraphFault d p c → IsGraphFault d q f → (p ≡ q) × (c ≡ f)
+one_graph_fault d (too_many_arcs {at} a) (too_many_arcs {at = place} b) =
+    let found : Some at ≡ Some place = sym a.1 ∙ b.1 in
     (cc, refl)
-one_graph_fault d e same (too_many_arcs {at} a) (cycle b) = absurd (not_few d.chains.items at a (moved d e chain_end.Cycle same b).0)
-one_graph_fault d e same (too_many_arcs {at} a) (entries b) = absurd (not_few d.chains.items at a (moved d e chain_end.Entries same b).0)
-one_graph_fault d e same (too_many_arcs {at} a) (exits b) = absurd (not_few d.chains.items at a (moved d e chain_end.Exits same b).0)
-one_graph_fault d e same (cycle a) (too_many_arcs {at} b) = absurd (not_few d.chains.items at (moved d e (chain_end.TooManyArcs at) same b) a.0)
-one_graph_fault d e same (cycle a) (cycle b) = (same.graph_at, refl)
-one_graph_fault d e same (cycle a) (entries b) = absurd ((moved d e chain_end.Entries same b).1.0 a.1)
-one_graph_fault d e same (cycle a) (exits b) = absurd ((moved d e chain_end.Exits same b).1.0 a.1)
-one_graph_fault d e same (entries a) (too_many_arcs {at} b) = absurd (not_few d.chains.items at (moved d e (chain_end.TooManyArcs at) same b) a.0)
-one_graph_fault d e same (entries a) (cycle b) = absurd (a.1.0 (moved d e chain_end.Cycle same b).1)
-one_graph_fault d e same (entries a) (entries b) = (same.graph_at, refl)
-one_graph_fault d e same (entries a) (exits b) = absurd (a.1.1 (moved d e chain_end.Exits same b).1.1)
-one_graph_fault d e same (exits a) (too_many_arcs {at} b) = absurd (not_few d.chains.items at (moved d e (chain_end.TooManyArcs at) same b) a.0)
-one_graph_fault d e same (exits a) (cycle b) = absurd (a.1.0 (moved d e chain_end.Cycle same b).1)
-one_graph_fault d e same (exits a) (entries b) = absurd ((moved d e chain_end.Entries same b).1.1 a.1.1)
-one_graph_fault d e same (exits a) (exits b) = (same.graph_at, refl)
+one_graph_fault d (too_many_arcs {at} a) (cycle b) = absurd (not_few d.chains at a b.0)
+one_graph_fault d (too_many_arcs {at} a) (entries b) = absurd (not_few d.chains at a b.0)
+one_graph_fault d (too_many_arcs {at} a) (exits b) = absurd (not_few d.chains at a b.0)
+one_graph_fault d (cycle a) (too_many_arcs {at} b) = absurd (not_few d.chains at b a.0)
+one_graph_fault d (cycle a) (cycle b) = (refl, refl)
+one_graph_fault d (cycle a) (entries b) = absurd (b.1.0 a.1)
+one_graph_fault d (cycle a) (exits b) = absurd (b.1.0 a.1)
+one_graph_fault d (entries a) (too_many_arcs {at} b) = absurd (not_few d.chains at b a.0)
+one_graph_fault d (entries a) (cycle b) = absurd (a.1.0 b.1)
+one_graph_fault d (entries a) (entries b) = (refl, refl)
+one_graph_fault d (entries a) (exits b) = absurd (a.1.1 b.1.1)
+one_graph_fault d (exits a) (too_many_arcs {at} b) = absurd (not_few d.chains at b a.0)
+one_graph_fault d (exits a) (cycle b) = absurd (a.1.0 b.1)
+one_graph_fault d (exits a) (entries b) = absurd (b.1.1 a.1.1)
+one_graph_fault d (exits a) (exits b) = (refl, refl)
 
-no_graph_fault : (d e : WrittenDeck) {p : ℕ} {c : Cause} → AreSameDecks d e → AreFew d.chains.items → IsValid (graph_of d.chains.items) → IsGraphFault e p c → ⊥
-no_graph_fault d e same few valid (too_many_arcs {at} b) = not_few d.chains.items at (moved d e (chain_end.TooManyArcs at) same b) few
-no_graph_fault d e same few valid (cycle b) = let round = (moved d e chain_end.Cycle same b).1 in valid.no_cycle round.node round.path round.is
-no_graph_fault d e same few valid (entries b) = (moved d e chain_end.Entries same b).1.1 valid.entry
-no_graph_fault d e same few valid (exits b) = (moved d e chain_end.Exits same b).1.2 valid.exit
+no_graph_fault : (d : WrittenDeck) {p : ℕ} {c : Cause} → AreFew d.chains → IsValid (graph_of d.chains) → IsGraphFault d p c → ⊥
+no_graph_fault d few valid (too_many_arcs {at} b) = not_few d.chains at b few
+no_graph_fault d few valid (cycle b) = let round = b.1 in valid.no_cycle round.node round.path round.is
+no_graph_fault d few valid (entries b) = b.1.1 valid.entry
+no_graph_fault d few valid (exits b) = b.1.2 valid.exit
 
 -- ---- texts
 
 -- a text is one written deck at most
 record IsOneWritten (names others : List (List ℕ)) (d e : WrittenDeck) : Type 0 where
   names_are : names ≡ others
-  same : AreSameDecks d e
+  same : d ≡ e
 
 none_twice : AreDistinct []
 none_twice i j t e f = absurd cc
@@ -195,6 +179,13 @@ one_written {text} {names} {others} {d} {e} a b =
     let same_names : names ≡ others = one_growth text a.tokens [] names others a.names_are grow in
     let distinct = grow_distinct text a.tokens [] names none_twice a.names_are in
     record { names_are = same_names; same = one_deck names text distinct a.reads (subst (λ ns. ReadsDeck ns text a.tokens e []) (sym same_names) reads) }
+
+-- so a fault of the one is a fault of the other
+check_moved : {d e : WrittenDeck} {p : ℕ} {c : Cause} → d ≡ e → IsCheckFault e p c → IsCheckFault d p c
+check_moved {p} {c} same f = subst (λ (x : WrittenDeck). IsCheckFault x p c) (sym same) f
+
+graph_moved : {d e : WrittenDeck} {p : ℕ} {c : Cause} → d ≡ e → IsGraphFault e p c → IsGraphFault d p c
+graph_moved {p} {c} same f = subst (λ (x : WrittenDeck). IsGraphFault x p c) (sym same) f
 
 same_tokens : {text : List ℕ} {ts us : List Token} → HasTokens text ts → HasTokens text us → ts ≡ us
 same_tokens {text} {ts} {us} a b = readings.one_list text ts us a.are_tokens b.are_tokens
@@ -245,23 +236,23 @@ one_fault (check names d v f) (bytes never) = absurd (never v.has_tokens.utf8)
 one_fault {text} (check names d v f) (tokens too g) = absurd (readings.not_both text v.tokens v.has_tokens.are_tokens g)
 one_fault (check names d v f) (nesting us j too are g) = absurd (deep_nowhere are g v.has_tokens)
 one_fault (check names d v f) (syntax us j has g) = absurd (goes_through has g v)
-one_fault (check names d v f) (check others e w g) = one_check d e (one_written v w).same f g
-one_fault (check names d v f) (graph others e w ok g) = absurd (not_checked e d (one_written w v).same ok f)
+one_fault (check names d v f) (check others e w g) = one_check d f (check_moved (one_written v w).same g)
+one_fault (check names d v f) (graph others e w ok g) = absurd (not_checked e ok (check_moved (one_written w v).same f))
 one_fault (graph names d v ok f) (bytes never) = absurd (never v.has_tokens.utf8)
 one_fault {text} (graph names d v ok f) (tokens too g) = absurd (readings.not_both text v.tokens v.has_tokens.are_tokens g)
 one_fault (graph names d v ok f) (nesting us j too are g) = absurd (deep_nowhere are g v.has_tokens)
 one_fault (graph names d v ok f) (syntax us j has g) = absurd (goes_through has g v)
-one_fault (graph names d v ok f) (check others e w g) = absurd (not_checked d e (one_written v w).same ok g)
-one_fault (graph names d v ok f) (graph others e w fine g) = one_graph_fault d e (one_written v w).same f g
+one_fault (graph names d v ok f) (check others e w g) = absurd (not_checked d ok (check_moved (one_written v w).same g))
+one_fault (graph names d v ok f) (graph others e w fine g) = one_graph_fault d f (graph_moved (one_written v w).same g)
 
 no_fault : {text : List ℕ} {names : List (List ℕ)} {grammars : List Grammar} {G : QGraph} {p : ℕ} {c : Cause} → IsDeckOf text names grammars G → IsFault text p c → ⊥
 no_fault of (bytes never) = never of.is_written.has_tokens.utf8
 no_fault {text} of (tokens utf8 f) = readings.not_both text of.is_written.tokens of.is_written.has_tokens.are_tokens f
 no_fault of (nesting ts i utf8 are f) = deep_nowhere are f of.is_written.has_tokens
 no_fault of (syntax ts i has f) = goes_through has f of.is_written
-no_fault of (check others e w f) = not_checked of.written e (one_written of.is_written w).same of.checked f
+no_fault of (check others e w f) = not_checked of.written of.checked (check_moved (one_written of.is_written w).same f)
 no_fault of (graph others e w ok f) =
-    no_graph_fault of.written e (one_written of.is_written w).same of.few (subst IsValid of.graph_is of.valid) f
+    no_graph_fault of.written of.few (subst IsValid of.graph_is of.valid) (graph_moved (one_written of.is_written w).same f)
 
 -- ---- the answers
 
@@ -270,8 +261,9 @@ pub one_meaning : {text : List ℕ} {names others : List (List ℕ)} {grammars m
     → IsDeckOf text names grammars G → IsDeckOf text others more H → (names ≡ others) × (grammars ≡ more) × (G ≡ H)
 one_meaning a b =
     let one = one_written a.is_written b.is_written in
-    let systems = same_meanings a.written.systems.items b.written.systems.items one.same.systems in
-    (one.names_are, a.grammars_are ∙ systems ∙ sym b.grammars_are, a.graph_is ∙ ap graph_of one.same.chains ∙ sym b.graph_is)
+    let grammars = ap (λ (d : WrittenDeck). map meaning_of d.systems) one.same in
+    let graphs = ap (λ (d : WrittenDeck). graph_of d.chains) one.same in
+    (one.names_are, a.grammars_are ∙ grammars ∙ sym b.grammars_are, a.graph_is ∙ graphs ∙ sym b.graph_is)
 
 -- it has at most one refusal
 pub one_refusal : {text : List ℕ} {r s : Refusal} → IsRefusalOf text r → IsRefusalOf text s → r ≡ s

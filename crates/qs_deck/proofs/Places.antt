@@ -19,8 +19,7 @@ use Rattle.qs_graphtext.specs.WrittenChains.{WrittenChain}
 use Rattle.qs_graphtext.specs.Reading.{ReadsGraph, reads_graph}
 use Rattle.qs_graphtext.specs.Refusals as graph_ends
 use Rattle.qs_graphtext.proofs.Whole.{graph_whole}
-use Rattle.qs_deck.specs.declared.written.WrittenSystem.{WrittenSystem}
-use Rattle.qs_deck.specs.declared.written.WrittenDeck.{WrittenDeck}
+use Rattle.qs_deck.specs.WrittenDecks.{WrittenSystem, WrittenDeck}
 use Rattle.qs_deck.specs.Grammar.{deck, of_graphs, line}
 use Rattle.qs_deck.specs.Reading.{ReadsSystems, ReadsDeck}
 use Rattle.qs_deck.specs.Syntax.{CannotGoOn, EndsAt}
@@ -117,8 +116,8 @@ drop_all : (ts : List Token) (to : ℕ) → length ts ≤ to → drop to ts ≡ 
 drop_all ts to le = none_left (drop to ts) (length-drop to ts ∙ omega (arith, le))
 
 pub whole_deck : (text : List ℕ) (ts : List Token) (from to : ℕ) (written : WrittenDeck) (old middle new : List (List ℕ)) (default : Token)
-    → AreSystemsRead text ts written.systems.items from old middle → KeepsNames middle new
-    → ReadsGraph new text (drop from ts) written.chains.items (drop to ts) → length ts ≤ to
+    → AreSystemsRead text ts written.systems from old middle → KeepsNames middle new
+    → ReadsGraph new text (drop from ts) written.chains (drop to ts) → length ts ≤ to
     → written.graph_at ≡ (get_or ts from default).from
     → ReadsDeck new text ts written []
 whole_deck text ts from to written old middle new default so_far keeps r end at =
@@ -127,9 +126,9 @@ whole_deck text ts from to written old middle new default so_far keeps r end at 
       some = so_far.some;
       first = f.0;
       behind = f.1;
-      systems = subst (λ us. ReadsSystems new text ts written.systems.items us) f.2 (so_far.reads new keeps);
+      systems = subst (λ us. ReadsSystems new text ts written.systems us) f.2 (so_far.reads new keeps);
       graph =
-          subst (λ us. ReadsGraph new text us written.chains.items []) f.2
-          (subst (λ us. ReadsGraph new text (drop from ts) written.chains.items us) (drop_all ts to end) r);
+          subst (λ us. ReadsGraph new text us written.chains []) f.2
+          (subst (λ us. ReadsGraph new text (drop from ts) written.chains us) (drop_all ts to end) r);
       graph_at = at ∙ ap (λ t. t.from) (first_at ts f.1 from default f.0 f.2);
     }

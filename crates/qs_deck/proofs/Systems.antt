@@ -18,7 +18,7 @@ use Rattle.qs_ruletext.specs.Cursors.{IsNext}
 use Rattle.qs_ruletext.proofs.SideSteps.{label_sort}
 use Rattle.qs_ruletext.proofs.Whole.{rules_whole}
 use Rattle.qs_graphtext.specs.Grammar as graphs
-use Rattle.qs_deck.specs.declared.written.WrittenSystem.{WrittenSystem}
+use Rattle.qs_deck.specs.WrittenDecks.{WrittenSystem}
 use Rattle.qs_deck.specs.Grammar.{Part, deck, system, of_rules, of_graphs, line}
 use Rattle.qs_deck.specs.Reading.{ReadsSystem, reads_system, ReadsSystems}
 use Rattle.qs_deck.specs.Readers.{table, behind_system, IsHeading, StopsAt, EndsIn, IsSystemRead, AreSystemsRead}
@@ -73,7 +73,7 @@ to_graph ts n = leads_done (part system) (part (of_graphs graphs.graph) ∷ []) 
 pub system_whole : {names : List (List ℕ)} {text : List ℕ} {ts rest : List Token} {written : WrittenSystem} → ReadsSystem names text ts written rest → IsWhole line (part system) ts rest
 system_whole {names} {text} {rest} {written} (reads_system {u} {ts} w at l s r) =
     whole_part (whole_sequence (whole_token w) (whole_sequence (whole_token (label_sort text u l.spelling l.of_token))
-    (whole_sequence (whole_token s) (whole_in rules.line line of_rules rules_are (rules_whole names text ts rest written.rules.items r)))))
+    (whole_sequence (whole_token s) (whole_in rules.line line of_rules rules_are (rules_whole names text ts rest written.rules r)))))
 
 -- so it leads to what is expected behind it
 system_leads : (text : List ℕ) (ts : List Token) (from to : ℕ) (written : WrittenSystem) (old new : List (List ℕ)) → IsSystemRead text ts from written to old new
@@ -86,14 +86,14 @@ pub one_system : (text : List ℕ) (ts : List Token) (from to : ℕ) (word name 
     → from ≤ length ts → IsHeading (drop from ts) word name → written.at ≡ word.from
     → ((later : List (List ℕ)) → KeepsNames middle later → IsLabelOf later text name written.name) → length middle ≤ length old + 1
     → KeepsNames middle new
-    → ((later : List (List ℕ)) → KeepsNames new later → ReadsRules later text (drop (from + 3) ts) written.rules.items (drop to ts))
+    → ((later : List (List ℕ)) → KeepsNames new later → ReadsRules later text (drop (from + 3) ts) written.rules (drop to ts))
     → (from + 3 ≤ to) × (to ≤ length ts) → NoRuleAt ts to → length new + (from + 3) ≤ length middle + to
     → AddsNameOf text name old middle → NamesGrow text (between ts (from + 3) to) middle new
     → IsSystemRead text ts from written to old new
 one_system text ts from to word name written old middle new w h at label few keeps reads place ended more_few adds names =
     record {
       reads = λ later k.
-          let rest = subst (λ us. ReadsRules later text us written.rules.items (drop to ts)) (sym (heading_rest ts from word name h)) (reads later k) in
+          let rest = subst (λ us. ReadsRules later text us written.rules (drop to ts)) (sym (heading_rest ts from word name h)) (reads later k) in
           subst (λ us. ReadsSystem later text us written (drop to ts)) (sym h.are)
           (reads_system h.of_word at (label later (λ j x i. k j x (keeps j x i))) h.of_dot rest);
       ended = ended;

@@ -8,14 +8,13 @@ use Rattle.qs_ruletext.proofs.SideSteps.{label_sort}
 use Rattle.qs_ruletext.proofs.Whole.{rules_whole}
 use Rattle.qs_graphtext.specs.Grammar as graphs
 use Rattle.qs_graphtext.proofs.Whole.{graph_whole}
-use Rattle.qs_deck.specs.declared.written.WrittenSystem.{WrittenSystem}
-use Rattle.qs_deck.specs.declared.written.WrittenDeck.{WrittenDeck}
+use Rattle.qs_deck.specs.WrittenDecks.{WrittenSystem, WrittenDeck}
 use Rattle.qs_deck.specs.Grammar.{deck, system, of_rules, of_graphs, line}
 use Rattle.qs_deck.specs.Reading.{ReadsSystem, reads_system, ReadsSystems, ReadsDeck}
 
 system_whole : {names : List (List ℕ)} {text : List ℕ} {ts rest : List Token} {s : WrittenSystem} → ReadsSystem names text ts s rest → IsWhole line (part system) ts rest
 system_whole {names} {text} (reads_system {u} {ts} {rest} {system = s} e at label f below) =
-    let inside = whole_in rules.line line of_rules (λ p. refl) (rules_whole names text ts rest s.rules.items below) in
+    let inside = whole_in rules.line line of_rules (λ p. refl) (rules_whole names text ts rest s.rules below) in
     whole_part (whole_sequence (whole_token e) (whole_sequence (whole_token (label_sort text u label.spelling label.of_token)) (whole_sequence (whole_token f) inside)))
 
 more_systems_whole : (names : List (List ℕ)) (text : List ℕ) (systems : List WrittenSystem) (ts rest : List Token) → ReadsSystems names text ts systems rest → IsWhole line (repeated (part system)) ts rest
@@ -30,4 +29,4 @@ deck_of_parts names text (s ∷ systems) ts middle rest some h g =
 
 pub deck_whole : {names : List (List ℕ)} {text : List ℕ} {ts rest : List Token} {d : WrittenDeck} → ReadsDeck names text ts d rest → IsWhole line (part deck) ts rest
 deck_whole {names} {text} {ts} {rest} {d} r =
-    deck_of_parts names text d.systems.items ts (r.first ∷ r.behind) rest r.some r.systems (whole_in graphs.line line of_graphs (λ p. refl) (graph_whole r.graph))
+    deck_of_parts names text d.systems ts (r.first ∷ r.behind) rest r.some r.systems (whole_in graphs.line line of_graphs (λ p. refl) (graph_whole r.graph))

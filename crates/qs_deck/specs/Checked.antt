@@ -1,29 +1,27 @@
 -- No public contract cites this: how checking the grammars of a deck, one behind the other, ends.
-use Rattle.std.specs.Prelude.{◌≡◌, ℕ, ◌≤◌, ◌⊎◌, List, ◌∷◌, ◌++◌, length, Some, slice_get}
+use Rattle.std.specs.Prelude.{◌≡◌, ◌≤◌, ◌⊎◌, List, ◌∷◌, ◌++◌, length, Some, slice_get}
 use Rattle.std.specs.List.{All}
 use Rattle.qs_lex.specs.declared.refusal.Cause.TheVariants.{TooManySystems}
 use Rattle.qs_pattern.specs.Rules.{IsAccepted}
-use Rattle.qs_ruletext.specs.declared.raw.RawRule.{RawRule}
-use Rattle.qs_ruletext.specs.Rules.{rule_of}
+use Rattle.qs_ruletext.specs.WrittenRules.{WrittenRule}
 use Rattle.qs_check.specs.declared.checking.CheckEnd.{CheckEnd}
 use Rattle.qs_check.specs.declared.checking.CheckEnd.TheVariants.{Refused, Memory}
 use Rattle.qs_check.specs.Checking.{EndsWith}
-use Rattle.qs_deck.specs.declared.written.WrittenSystem.{WrittenSystem}
-use Rattle.qs_deck.specs.Written.{rules_of}
+use Rattle.qs_deck.specs.WrittenDecks.{WrittenSystem, rules_of}
 
-abbrev pub AreAccepted : List RawRule → Type 0
-AreAccepted raws = All (λ raw. IsAccepted (rule_of raw)) raws
+abbrev pub AreAccepted : List WrittenRule → Type 0
+AreAccepted raws = All (λ raw. IsAccepted raw.rule) raws
 
 -- the rules in front of one are accepted, and that one is refused so
-pub record IsFirstOf (raws : List RawRule) (end : CheckEnd) : Type 0 where
-  pub front : List RawRule
-  pub raw : RawRule
-  pub behind : List RawRule
+pub record IsFirstOf (raws : List WrittenRule) (end : CheckEnd) : Type 0 where
+  pub front : List WrittenRule
+  pub raw : WrittenRule
+  pub behind : List WrittenRule
   pub are : raws ≡ front ++ raw ∷ behind
   pub accepted : AreAccepted front
   pub ends : EndsWith raw end
 
-abbrev pub IsFirstRefused : List RawRule → CheckEnd → Type 0
+abbrev pub IsFirstRefused : List WrittenRule → CheckEnd → Type 0
 IsFirstRefused raws (Refused cause at) = IsFirstOf raws (Refused cause at)
 IsFirstRefused raws Memory = Unit {0}
 

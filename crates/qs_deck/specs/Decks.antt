@@ -6,12 +6,10 @@ use Rattle.qs_lex.specs.Tokens.{AreTokensOf}
 use Rattle.qs_lex.specs.Nesting.{IsTooDeep}
 use Rattle.qs_tree.specs.declared.cell.Label.{Label}
 use Rattle.qs_pattern.specs.Rules.{Rule}
-use Rattle.qs_ruletext.specs.Rules.{rule_of}
 use Rattle.qs_ruletext.specs.Names.{NamesGrow}
 use Rattle.qs_graph.specs.Graphs.{QGraph, IsValid}
 use Rattle.qs_graphtext.specs.GraphOfChains.{AreFew, graph_of}
-use Rattle.qs_deck.specs.declared.written.WrittenSystem.{WrittenSystem}
-use Rattle.qs_deck.specs.declared.written.WrittenDeck.{WrittenDeck}
+use Rattle.qs_deck.specs.WrittenDecks.{WrittenSystem, WrittenDeck}
 use Rattle.qs_deck.specs.declared.system.System.{System}
 use Rattle.qs_deck.specs.Reading.{ReadsDeck}
 use Rattle.qs_deck.specs.Checks.{IsChecked}
@@ -26,7 +24,7 @@ abbrev pub grammar_of : System → Grammar
 grammar_of system = record { name = system.name; rules = system.rules.items }
 
 abbrev pub meaning_of : WrittenSystem → Grammar
-meaning_of system = record { name = system.name; rules = map rule_of system.rules.items }
+meaning_of system = record { name = system.name; rules = map (λ written. written.rule) system.rules }
 
 -- The text is UTF-8, these are its tokens, and at most 1,000 parentheses are open at a time.
 pub record HasTokens (text : List ℕ) (tokens : List Token) : Type 0 where
@@ -48,7 +46,7 @@ pub record IsDeckOf (text : List ℕ) (names : List (List ℕ)) (grammars : List
   pub written : WrittenDeck
   pub is_written : IsWritten text names written
   pub checked : IsChecked written
-  pub few : AreFew written.chains.items
+  pub few : AreFew written.chains
   pub valid : IsValid graph
-  pub grammars_are : grammars ≡ map meaning_of written.systems.items
-  pub graph_is : graph ≡ graph_of written.chains.items
+  pub grammars_are : grammars ≡ map meaning_of written.systems
+  pub graph_is : graph ≡ graph_of written.chains

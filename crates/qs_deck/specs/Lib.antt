@@ -1,7 +1,7 @@
--- The grammar of decks, what is read from their tokens, which decks are accepted and why others are refused, and how decks are
--- written. Decks of grammars and a Q-graph are Colmerauer's (1970); their spelling, limits and refusals are this project's own.
+-- The grammar of decks, decks as they are read from their tokens, which decks are accepted and why others are refused, and how
+-- decks are written. Decks of grammars and a Q-graph are Colmerauer's (1970); their spelling, limits and refusals are this project's own.
 pub mod Grammar
-pub mod Written
+pub mod WrittenDecks
 pub mod Reading
 pub mod Syntax
 pub mod Checks
@@ -9,7 +9,8 @@ pub mod Decks
 pub mod Named
 pub mod Refusals
 pub mod Texts
--- No public contract cites these: what private functions promise.
+-- No public contract cites these: what private functions promise, and how the logic tells written decks apart.
 pub mod Readers
 pub mod Checked
 pub mod Answers
+pub mod Codes

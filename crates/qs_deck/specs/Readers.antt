@@ -16,7 +16,7 @@ use Rattle.qs_ruletext.specs.Cursors as rule_readers
 use Rattle.qs_ruletext.specs.Cursors.{IsNext}
 use Rattle.qs_graphtext.specs.Grammar as graphs
 use Rattle.qs_graphtext.specs.Readers as graph_readers
-use Rattle.qs_deck.specs.declared.written.WrittenSystem.{WrittenSystem}
+use Rattle.qs_deck.specs.WrittenDecks.{WrittenSystem}
 use Rattle.qs_deck.specs.Grammar.{Part, deck, system, of_rules, of_graphs, line}
 use Rattle.qs_deck.specs.Reading.{ReadsSystem, ReadsSystems}
 

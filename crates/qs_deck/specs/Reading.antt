@@ -6,14 +6,13 @@ use Rattle.qs_lex.specs.Grammar.{the_word, stop, IsOf}
 use Rattle.qs_ruletext.specs.Reading.{IsLabelOf}
 use Rattle.qs_ruletext.specs.Rules.{ReadsRules}
 use Rattle.qs_graphtext.specs.Reading.{ReadsGraph}
-use Rattle.qs_deck.specs.declared.written.WrittenSystem.{WrittenSystem}
-use Rattle.qs_deck.specs.declared.written.WrittenDeck.{WrittenDeck}
+use Rattle.qs_deck.specs.WrittenDecks.{WrittenSystem, WrittenDeck}
 
 -- system = -SYSTEME- label "." { rule }
 pub data ReadsSystem (names : List (List ℕ)) (text : List ℕ) : List Token → WrittenSystem → List Token → Type 0 where
   reads_system : {t u v : Token} {ts rest : List Token} {system : WrittenSystem}
       → IsOf (the_word Systeme) t → system.at ≡ t.from → IsLabelOf names text u system.name → IsOf stop v
-      → ReadsRules names text ts system.rules.items rest
+      → ReadsRules names text ts system.rules rest
       → ReadsSystem names text (t ∷ u ∷ v ∷ ts) system rest
 
 -- the tokens before the rest are read as these systems, one behind the other
@@ -23,9 +22,9 @@ ReadsSystems names text ts (system ∷ systems) rest = (middle : List Token) × 
 
 -- deck = system { system } graph. The deck knows the byte at which its graph begins.
 pub record ReadsDeck (names : List (List ℕ)) (text : List ℕ) (ts : List Token) (deck : WrittenDeck) (rest : List Token) : Type 0 where
-  pub some : 1 ≤ length deck.systems.items
+  pub some : 1 ≤ length deck.systems
   pub first : Token
   pub behind : List Token
-  pub systems : ReadsSystems names text ts deck.systems.items (first ∷ behind)
-  pub graph : ReadsGraph names text (first ∷ behind) deck.chains.items rest
+  pub systems : ReadsSystems names text ts deck.systems (first ∷ behind)
+  pub graph : ReadsGraph names text (first ∷ behind) deck.chains rest
   pub graph_at : deck.graph_at ≡ first.from

@@ -1,6 +1,6 @@
 -- The first fault of a text that isn't accepted, and what is told of it. The phases stand in an order: bytes, tokens, nesting,
 -- syntax, check, graph. The first phase that finds a fault answers, with its first fault.
-use Rattle.std.specs.Prelude.{◌≡◌, ◌≢◌, ℕ, ◌<◌, List, length, Option, Some, None, slice_get}
+use Rattle.std.specs.Prelude.{◌≡◌, ℕ, ◌<◌, List, length, Option, Some, None, slice_get}
 use Rattle.std.specs.Str.{IsUtf8}
 use Rattle.std.specs.Str.Lossy.{utf8_valid_len}
 use Rattle.qs_lex.specs.declared.token.Token.{Token}
@@ -13,7 +13,7 @@ use Rattle.qs_lex.specs.Refusals.{IsFirstFault}
 use Rattle.qs_lex.specs.Places.{line_of, column_of}
 use Rattle.qs_graphtext.specs.GraphOfChains.{AreRefused}
 use Rattle.qs_graphtext.specs.declared.chain_end.ChainEnd.TheVariants as chain_end
-use Rattle.qs_deck.specs.declared.written.WrittenDeck.{WrittenDeck}
+use Rattle.qs_deck.specs.WrittenDecks.{WrittenDeck}
 use Rattle.qs_deck.specs.declared.deck.DeckEnd.{DeckEnd}
 use Rattle.qs_deck.specs.declared.deck.DeckEnd.TheVariants.{Refused, Memory}
 use Rattle.qs_deck.specs.Syntax.{CannotGoOn}
@@ -36,10 +36,10 @@ pub record IsFirstTooDeep (tokens : List Token) (index : ℕ) : Type 0 where
 -- The chains of the deck make no graph: there are too many trees, and the 65,537th begins at this byte; or what they make isn't
 -- valid, for the first of three causes, of which the word -GRAPHE- is the place.
 pub data IsGraphFault (deck : WrittenDeck) : ℕ → Cause → Type 0 where
-  too_many_arcs : {at : ℕ} → AreRefused deck.chains.items (chain_end.TooManyArcs at) → IsGraphFault deck at TooManyArcs
-  cycle : AreRefused deck.chains.items chain_end.Cycle → IsGraphFault deck deck.graph_at Cycle
-  entries : AreRefused deck.chains.items chain_end.Entries → IsGraphFault deck deck.graph_at Entries
-  exits : AreRefused deck.chains.items chain_end.Exits → IsGraphFault deck deck.graph_at Exits
+  too_many_arcs : {at : ℕ} → AreRefused deck.chains (chain_end.TooManyArcs at) → IsGraphFault deck at TooManyArcs
+  cycle : AreRefused deck.chains chain_end.Cycle → IsGraphFault deck deck.graph_at Cycle
+  entries : AreRefused deck.chains chain_end.Entries → IsGraphFault deck deck.graph_at Entries
+  exits : AreRefused deck.chains chain_end.Exits → IsGraphFault deck deck.graph_at Exits
 
 -- The first fault of a text: the byte of its place, and its cause. The place of bytes that aren't UTF-8 is behind the longest
 -- front that is.

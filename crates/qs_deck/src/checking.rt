@@ -2,14 +2,14 @@
 
 ghost use Rattle.std.specs.Prelude.{◌≡◌, ◌<◌, ◌≤◌, IfOk, IfErr, length, map};
 ghost use Rattle.std.specs.List.{All};
-ghost use Rattle.qs_ruletext.specs.Rules.{rule_of};
+ghost use Rattle.qs_ruletext.specs.WrittenRules.{WrittenRule};
 ghost use Rattle.qs_check.specs.Checking.{CanBeChecked};
 ghost use Rattle.qs_deck.specs.Decks.{grammar_of, meaning_of};
-ghost use Rattle.qs_deck.specs.Written.{rules_of};
+ghost use Rattle.qs_deck.specs.WrittenDecks.{rules_of};
 ghost use Rattle.qs_deck.specs.Checked.{AreAccepted, IsFirstRefused, IsFirstFault};
 
 use crate::system::System;
-use crate::written::WrittenSystem;
+use crate::written::RawSystem;
 use qs_check::{CheckEnd, check};
 use qs_lex::Cause;
 use qs_pattern::Rule;
@@ -22,7 +22,7 @@ const MOST_SYSTEMS: usize = 256;
 /// The rules, each of which is accepted; or the first cause why the first that isn't accepted isn't.
 fn checked_rules(alloc: Global, raws: Vec<RawRule>) -> Result<Vec<Rule>, CheckEnd>
     requires { All CanBeChecked raws.items }
-    ensures rules { IfOk result (λ rules. rules.items ≡ map rule_of raws.items) }
+    ensures rules { IfOk result (λ rules. rules.items ≡ map (λ (raw : WrittenRule). raw.rule) raws.items) }
     ensures accepted { IfOk result (λ _. AreAccepted raws.items) }
     ensures refused { IfErr result (IsFirstRefused raws.items) }
 {
@@ -35,22 +35,22 @@ fn checked_rules(alloc: Global, raws: Vec<RawRule>) -> Result<Vec<Rule>, CheckEn
 }
 
 /// The grammar, where each of its rules is accepted; or the first cause why the first that isn't accepted isn't.
-fn checked_system(alloc: Global, system: WrittenSystem) -> Result<System, CheckEnd>
-    requires can { All CanBeChecked system.rules.items }
-    requires few { length system.rules.items < 4294967295 }
+fn checked_system(alloc: Global, system: RawSystem) -> Result<System, CheckEnd>
+    requires can { All CanBeChecked system.rules }
+    requires few { length system.rules < 4294967295 }
     ensures system { IfOk result (λ checked. grammar_of checked ≡ meaning_of system) }
-    ensures accepted { IfOk result (λ _. AreAccepted system.rules.items) }
-    ensures refused { IfErr result (IsFirstRefused system.rules.items) }
+    ensures accepted { IfOk result (λ _. AreAccepted system.rules) }
+    ensures refused { IfErr result (IsFirstRefused system.rules) }
 {
-    let WrittenSystem { name, rules, .. } = system;
+    let RawSystem { name, rules, .. } = system;
     let rules = checked_rules(alloc, rules)?;
     Ok(System { name, rules })
 }
 
 /// The grammars, where each of their rules is accepted; or the first cause why the first that isn't accepted isn't.
-fn checked_systems(alloc: Global, systems: Vec<WrittenSystem>) -> Result<Vec<System>, CheckEnd>
+fn checked_systems(alloc: Global, systems: Vec<RawSystem>) -> Result<Vec<System>, CheckEnd>
     requires can { All CanBeChecked (rules_of systems.items) }
-    requires few { All (λ system. length system.rules.items < 4294967295) systems.items }
+    requires few { All (λ system. length system.rules < 4294967295) systems.items }
     ensures systems { IfOk result (λ checked. map grammar_of checked.items ≡ map meaning_of systems.items) }
     ensures accepted { IfOk result (λ _. AreAccepted (rules_of systems.items)) }
     ensures refused { IfErr result (IsFirstRefused (rules_of systems.items)) }
@@ -65,9 +65,9 @@ fn checked_systems(alloc: Global, systems: Vec<WrittenSystem>) -> Result<Vec<Sys
 
 /// The grammars of a written deck, where there are at most 256 and each of their rules is accepted; or the first fault: the
 /// word `-SYSTEME-` of the 257th grammar, or the first cause why the first rule that isn't accepted isn't.
-pub fn checked(alloc: Global, systems: Vec<WrittenSystem>) -> Result<Vec<System>, CheckEnd>
+pub fn checked(alloc: Global, systems: Vec<RawSystem>) -> Result<Vec<System>, CheckEnd>
     requires can { All CanBeChecked (rules_of systems.items) }
-    requires few { All (λ system. length system.rules.items < 4294967295) systems.items }
+    requires few { All (λ system. length system.rules < 4294967295) systems.items }
     ensures systems { IfOk result (λ checked. map grammar_of checked.items ≡ map meaning_of systems.items) }
     ensures few { IfOk result (λ _. length systems.items ≤ 256) }
     ensures accepted { IfOk result (λ _. AreAccepted (rules_of systems.items)) }

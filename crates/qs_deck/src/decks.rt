@@ -17,7 +17,7 @@ use crate::checking::checked;
 use crate::deck::{Deck, DeckEnd};
 use crate::laws::one_answer;
 use crate::reading::read_written;
-use crate::written::WrittenDeck;
+use crate::written::RawDeck;
 use qs_check::CheckEnd;
 use qs_graphtext::{Chain, ChainEnd, graph_of};
 use qs_lex::{Cause, LexEnd, Refusal, Token, place, tokens, too_deep};
@@ -78,13 +78,13 @@ fn graph_fault(graph_at: u32, end: ChainEnd) -> Option<(u32, Cause)>
 }
 
 /// The deck that a written deck of the text means, or its first fault.
-fn deck_of(alloc: Global, text: &str, names: Names, written: WrittenDeck) -> Result<Deck, DeckEnd>
+fn deck_of(alloc: Global, text: &str, names: Names, written: RawDeck) -> Result<Deck, DeckEnd>
     requires written { IsWritten text.now names written }
     requires short { length text.now ≤ 4194304 }
     ensures deck { IfOk result (λ deck. IsDeckOf text.now deck.names (map grammar_of deck.systems.items) deck.graph) }
     ensures end { IfErr result (EndsFor text.now) }
 {
-    let WrittenDeck {
+    let RawDeck {
         systems,
         graph_at,
         chains,

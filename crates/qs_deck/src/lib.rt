@@ -20,7 +20,7 @@ pub use decks::read_deck;
 pub use std::alloc::AllocError as Memory;
 pub use system::System;
 pub use writing::write_deck;
-pub use written::{WrittenDeck, WrittenSystem};
+pub use written::{RawDeck, RawSystem};
 
 #[cfg(test)]
 mod reading_tests;

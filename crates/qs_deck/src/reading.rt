@@ -7,16 +7,16 @@ ghost use Rattle.qs_lex.specs.Tokens.{AreTokensOf, IsLabel};
 ghost use Rattle.qs_lex.specs.Nesting.{IsTooDeep};
 ghost use Rattle.qs_lex.specs.Grammar.{a_label, the_word, part};
 ghost use Rattle.qs_lex.specs.Expecting.{same_sort, NextIsNo};
-ghost use Rattle.qs_ruletext.specs.Rules.{KeepsNames, IsWellRead, rule_of};
+ghost use Rattle.qs_ruletext.specs.Rules.{KeepsNames, IsWellRead};
 ghost use Rattle.qs_ruletext.specs.Names.{NamesGrow};
 ghost use Rattle.qs_graphtext.specs.Reading.{AreNamed};
 ghost use Rattle.qs_deck.specs.Grammar.{deck, system};
-ghost use Rattle.qs_deck.specs.Written.{rules_in};
+ghost use Rattle.qs_deck.specs.WrittenDecks.{rules_in};
 ghost use Rattle.qs_deck.specs.Reading.{ReadsDeck};
 ghost use Rattle.qs_deck.specs.Syntax.{EndsAt};
 ghost use Rattle.qs_deck.specs.Readers.{behind_system, IsHeading, EndsInHeading, EndsIn, IsSystemRead, NextIsWord, AreSystemsRead};
 
-use crate::written::{WrittenDeck, WrittenSystem};
+use crate::written::{RawDeck, RawSystem};
 use qs_graphtext::read_chains;
 use qs_lex::{Kind, Token, Word};
 use qs_ruletext::cursor::{Halt, behind, expect};
@@ -68,7 +68,7 @@ fn system(
     tokens: &[Token],
     from: usize,
     names: &mut Names,
-) -> Result<(WrittenSystem, usize), TextEnd>
+) -> Result<(RawSystem, usize), TextEnd>
     requires of_text { AreTokensOf text.now tokens.now }
     requires shallow { (index : ℕ) → IsTooDeep tokens.now index → ⊥ }
     requires within { from ≤ length tokens.now }
@@ -80,7 +80,7 @@ fn system(
     let (word, label) = heading_at(tokens, from)?;
     let name = label_of(alloc, text, label, names)?;
     let (rules, end) = read_rules(alloc, text, tokens, from + 3, names)?;
-    let system = WrittenSystem {
+    let system = RawSystem {
         at: word.from,
         name,
         rules,
@@ -102,7 +102,7 @@ fn systems(
     text: &str,
     tokens: &[Token],
     names: &mut Names,
-) -> Result<(Vec<WrittenSystem>, usize), TextEnd>
+) -> Result<(Vec<RawSystem>, usize), TextEnd>
     requires of_text { AreTokensOf text.now tokens.now }
     requires shallow { (index : ℕ) → IsTooDeep tokens.now index → ⊥ }
     requires room { length names.old + 2 * length tokens.now < 2 ^ 32 }
@@ -134,27 +134,27 @@ pub fn read_written(
     text: &str,
     tokens: &[Token],
     names: &mut Names,
-) -> Result<WrittenDeck, TextEnd>
+) -> Result<RawDeck, TextEnd>
     requires of_text { AreTokensOf text.now tokens.now }
     requires shallow { (index : ℕ) → IsTooDeep tokens.now index → ⊥ }
     requires room { length names.old + 2 * length tokens.now < 2 ^ 32 }
 
     ensures read { IfOk result (λ deck. ReadsDeck names.new text.now tokens.now deck []) }
-    ensures made { IfOk result (λ deck. All (λ raw. IsWellRead (length names.new) (rule_of raw)) (rules_in deck)) }
+    ensures made { IfOk result (λ deck. All (λ raw. IsWellRead (length names.new) raw.rule) (rules_in deck)) }
     ensures ends { IfErr result (EndsAt tokens.now) }
 
     // The labels.
     ensures keeps { KeepsNames names.old names.new }
     ensures names { IfOk result (λ deck. NamesGrow text.now tokens.now names.old names.new) }
-    ensures named { IfOk result (λ deck. AreNamed (length names.new) deck.chains.items) }
-    ensures systems_named { IfOk result (λ deck. All (λ system. system.name.0 < length names.new) deck.systems.items) }
+    ensures named { IfOk result (λ deck. AreNamed (length names.new) deck.chains) }
+    ensures systems_named { IfOk result (λ deck. All (λ system. system.name.0 < length names.new) deck.systems) }
 {
     let (systems, from) = systems(alloc, text, tokens, names)?;
     let (chains, end) = read_chains(alloc, text, tokens, from, names)?;
     if end < tokens.len() {
         return Err(TextEnd::Syntax(end));
     }
-    Ok(WrittenDeck {
+    Ok(RawDeck {
         systems,
         graph_at: tokens[from].from,
         chains,

@@ -3,7 +3,7 @@
 ghost use Rattle.std.specs.Prelude.{◌≤◌, length};
 
 use crate::reading::read_written;
-use crate::written::WrittenDeck;
+use crate::written::RawDeck;
 use qs_lex::{tokens, too_deep};
 use qs_ruletext::TextEnd;
 use qs_tree::Names;
@@ -11,7 +11,7 @@ use std::alloc::Global;
 use std::test::Fail;
 
 /// The deck that is read from a text, and how many labels it has.
-fn read(alloc: Global, text: &str) -> Result<(Result<WrittenDeck, TextEnd>, u32), Fail>
+fn read(alloc: Global, text: &str) -> Result<(Result<RawDeck, TextEnd>, u32), Fail>
     requires { length text.now ≤ 4194304 }
 {
     let found = tokens(alloc, text)?;

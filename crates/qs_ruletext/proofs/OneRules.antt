@@ -11,10 +11,10 @@ use Rattle.qs_pattern.specs.declared.pattern.Head.TheVariants as head
 use Rattle.qs_pattern.specs.Patterns.{Patterns}
 use Rattle.qs_pattern.specs.Conditions.{Condition}
 use Rattle.qs_pattern.specs.Rules.{Rule}
-use Rattle.qs_ruletext.specs.declared.raw.RawRule.{RawRule}
+use Rattle.qs_ruletext.specs.WrittenRules.{WrittenRule}
 use Rattle.qs_ruletext.specs.Grammar.{Part, rule, tree, line}
 use Rattle.qs_ruletext.specs.Reading.{IsHeadOf, ReadsTree, reads_node, reads_tree_variable, ReadsSide, reads_side}
-use Rattle.qs_ruletext.specs.Rules.{ReadsCondIfGiven, no_cond, some_cond, ReadsRule, reads_rule, ReadsRawRule, ReadsRules, rule_of, cell_bytes, NoRuleAt}
+use Rattle.qs_ruletext.specs.Rules.{ReadsCondIfGiven, no_cond, some_cond, ReadsRule, reads_rule, ReadsWrittenRule, ReadsRules, cell_bytes, NoRuleAt}
 use Rattle.qs_ruletext.specs.Endings.{NoRuleIn}
 use Rattle.qs_ruletext.proofs.SideSteps.{label_sort}
 use Rattle.qs_ruletext.proofs.OneReading.{after_side, after_cond, fails_for, one_sort, same_rest, same_token, one_side, one_cond}
@@ -71,13 +71,13 @@ module _ (names : List (List ℕ)) (text : List ℕ) (distinct : AreDistinct nam
       (λ i. record { left = lefts.0 i; right = rights.0 i; condition = conditions.0 i }, same_rest conditions.1)
 
   -- the bytes of the cells are those of the tokens that were passed
-  one_bytes : (ts middle between : List Token) (r s : RawRule) → ReadsRawRule names text ts r middle → ReadsRawRule names text ts s between → middle ≡ between → r.at.items ≡ s.at.items
+  one_bytes : (ts middle between : List Token) (r s : WrittenRule) → ReadsWrittenRule names text ts r middle → ReadsWrittenRule names text ts s between → middle ≡ between → r.at ≡ s.at
   one_bytes ts middle between r s f g same =
       let fronts : f.tokens ++ middle ≡ g.tokens ++ middle = sym f.are ∙ g.are ∙ ap (λ us. g.tokens ++ us) (sym same) in
       f.at ∙ ap cell_bytes (append_cancel_right f.tokens g.tokens middle fronts) ∙ sym g.at
 
-  pub one_rules : (raws others : List RawRule) (ts rest end : List Token) → ReadsRules names text ts raws rest → ReadsRules names text ts others end → NoRuleIn rest → NoRuleIn end
-      → (map rule_of raws ≡ map rule_of others) × (map (λ raw. raw.at.items) raws ≡ map (λ raw. raw.at.items) others) × (rest ≡ end)
+  pub one_rules : (raws others : List WrittenRule) (ts rest end : List Token) → ReadsRules names text ts raws rest → ReadsRules names text ts others end → NoRuleIn rest → NoRuleIn end
+      → (map (λ raw. raw.rule) raws ≡ map (λ raw. raw.rule) others) × (map (λ raw. raw.at) raws ≡ map (λ raw. raw.at) others) × (rest ≡ end)
   one_rules [] [] ts rest end e f none stops = (refl, refl, sym e ∙ f)
   one_rules [] (s ∷ others) ts rest end e g none stops = absurd (no_rule (subst NoRuleIn (sym e) none) g.1.rule)
   one_rules (r ∷ raws) [] ts rest end f e none stops = absurd (no_rule (subst NoRuleIn (sym e) stops) f.1.rule)

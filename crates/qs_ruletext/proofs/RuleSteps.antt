@@ -8,12 +8,12 @@ use Rattle.qs_lex.specs.Expecting.{starts, same_sort, NextIsNo, Leads}
 use Rattle.qs_lex.proofs.Going.{leads_on, leads_part, leads_sequence, leads_without, leads_with}
 use Rattle.qs_pattern.specs.Patterns.{Patterns}
 use Rattle.qs_pattern.specs.Conditions.{Condition}
-use Rattle.qs_ruletext.specs.declared.raw.RawRule.{RawRule}
+use Rattle.qs_ruletext.specs.WrittenRules.{WrittenRule}
 use Rattle.qs_ruletext.specs.declared.cursor.Halt.{Halt}
 use Rattle.qs_ruletext.specs.declared.cursor.Halt.TheVariants.{Syntax}
 use Rattle.qs_ruletext.specs.Grammar.{Part, rule, side, cond, line}
 use Rattle.qs_ruletext.specs.Reading.{ReadsSide, ReadsCond}
-use Rattle.qs_ruletext.specs.Rules.{cell_bytes, ReadsCondIfGiven, no_cond, some_cond, ReadsRule, reads_rule, rule_of, ReadsRawRule, KeepsNames}
+use Rattle.qs_ruletext.specs.Rules.{cell_bytes, ReadsCondIfGiven, no_cond, some_cond, ReadsRule, reads_rule, ReadsWrittenRule, KeepsNames}
 use Rattle.qs_ruletext.specs.Cursors.{table, Readable, IsNext, Passes, Ends, IsRead}
 use Rattle.qs_ruletext.proofs.Tables.{ok, next_is_no, not_at_end, token, readable_rest, next_length, ends_on, ends_here}
 use Rattle.qs_ruletext.proofs.Naming.{no_names, names_on, sign_names}
@@ -120,13 +120,13 @@ front_is ts passed rest e =
     let n : length ts - length rest ≡ length passed = omega (arith, long) in
     ap (λ k. take k ts) n ∙ ap (take (length passed)) e ∙ take-append_seam passed rest
 
-pub read_rule : (text : List ℕ) (old first second new : List (List ℕ)) (ts end after middle last rest : List Token) (left right : Patterns) (condition : Option Condition) (raw : RawRule)
-    → rule_of raw ≡ record { left = left; right = right; condition = condition } → raw.at.items ≡ cell_bytes (take (length ts - length rest) ts)
+pub read_rule : (text : List ℕ) (old first second new : List (List ℕ)) (ts end after middle last rest : List Token) (left right : Patterns) (condition : Option Condition) (raw : WrittenRule)
+    → raw.rule ≡ record { left = left; right = right; condition = condition } → raw.at ≡ cell_bytes (take (length ts - length rest) ts)
     → IsRead (part side) SideEnds (λ later. ReadsSide later text ts left end) text ts end old first → IsNext equals end after
     → KeepsNames first second → IsRead (part side) SideEnds (λ later. ReadsSide later text after right middle) text after middle first second
     → KeepsNames second new → IsRead IfGiven IfGivenEnds (λ later. ReadsCondIfGiven later text middle condition last) text middle last second new
     → IsNext stop last rest
-    → IsRead (part rule) [] (λ later. ReadsRawRule later text ts raw rest) text ts rest old new
+    → IsRead (part rule) [] (λ later. ReadsWrittenRule later text ts raw rest) text ts rest old new
 read_rule text old first second new ts end after middle last rest left right condition raw e at one_side n k1 other_side k2 given m =
     let outer = next_length equals end after n in
     let inner = next_length stop last rest m in

@@ -13,9 +13,9 @@ use Rattle.qs_lex.specs.Grammar.{part, repeated, IsWhole}
 use Rattle.qs_lex.specs.Expecting.{NextIsNo}
 use Rattle.qs_lex.proofs.Readings.{token_stands}
 use Rattle.qs_lex.proofs.Expected.{begin_front}
-use Rattle.qs_ruletext.specs.declared.raw.RawRule.{RawRule}
+use Rattle.qs_ruletext.specs.WrittenRules.{WrittenRule}
 use Rattle.qs_ruletext.specs.Grammar.{rule, line}
-use Rattle.qs_ruletext.specs.Rules.{KeepsNames, ReadsRawRule, ReadsRules, NoRuleAt}
+use Rattle.qs_ruletext.specs.Rules.{KeepsNames, ReadsWrittenRule, ReadsRules, NoRuleAt}
 use Rattle.qs_ruletext.specs.Names.{NamesGrowUpTo}
 use Rattle.qs_ruletext.specs.Cursors.{table, begins_tree, IsGood, Readable, IsRead}
 use Rattle.qs_ruletext.proofs.Tables.{ok}
@@ -55,9 +55,9 @@ readable_behind text tokens front (t ∷ ts) are e =
     (of, spelled_good t.kind (bytes_of text t) (token_stands of).spelled, readable_behind text tokens (front ++ t ∷ []) ts are (e ∙ sym (append_assoc front (t ∷ []) ts)))
 
 -- these rules are read, and whatever is read behind them is read with them
-pub record SoFar (text : List ℕ) (tokens : List Token) (from : ℕ) (rules : List RawRule) (rest : List Token) (old new : List (List ℕ)) : Type 0 where
+pub record SoFar (text : List ℕ) (tokens : List Token) (from : ℕ) (rules : List WrittenRule) (rest : List Token) (old new : List (List ℕ)) : Type 0 where
   pub keeps : KeepsNames old new
-  pub reads : (later : List (List ℕ)) → KeepsNames new later → (raws : List RawRule) (end : List Token) → ReadsRules later text rest raws end → ReadsRules later text (drop from tokens) (rules ++ raws) end
+  pub reads : (later : List (List ℕ)) → KeepsNames new later → (raws : List WrittenRule) (end : List Token) → ReadsRules later text rest raws end → ReadsRules later text (drop from tokens) (rules ++ raws) end
   pub readable : Readable text rest
   pub names : NamesGrowUpTo text (drop from tokens) rest old new
   pub room : length new + length rest + from ≤ length old + length tokens
@@ -65,7 +65,7 @@ pub record SoFar (text : List ℕ) (tokens : List Token) (from : ℕ) (rules : L
   pub front : List Token
   pub parts : tokens ≡ front ++ rest
 
-pub none_so_far : (text : List ℕ) (tokens : List Token) (from : ℕ) (rules : List RawRule) (rest : List Token) (names : List (List ℕ)) → AreTokensOf text tokens → from ≤ length tokens → rules ≡ [] → rest ≡ drop from tokens
+pub none_so_far : (text : List ℕ) (tokens : List Token) (from : ℕ) (rules : List WrittenRule) (rest : List Token) (names : List (List ℕ)) → AreTokensOf text tokens → from ≤ length tokens → rules ≡ [] → rest ≡ drop from tokens
     → SoFar text tokens from rules rest names names
 none_so_far text tokens from rules rest names are within none e =
     let parts : tokens ≡ take from tokens ++ rest = sym (take-append-drop from tokens) ∙ ap (λ us. take from tokens ++ us) (sym e) in
@@ -81,9 +81,9 @@ none_so_far text tokens from rules rest names are within none e =
       parts = parts;
     }
 
-pub one_more_so_far : (text : List ℕ) (tokens : List Token) (from : ℕ) (rules longer : List RawRule) (raw : RawRule) (rest end : List Token) (old middle new : List (List ℕ))
+pub one_more_so_far : (text : List ℕ) (tokens : List Token) (from : ℕ) (rules longer : List WrittenRule) (raw : WrittenRule) (rest end : List Token) (old middle new : List (List ℕ))
     → SoFar text tokens from rules rest old middle → longer ≡ rules ++ raw ∷ [] → KeepsNames middle new
-    → IsRead (part rule) [] (λ later. ReadsRawRule later text rest raw end) text rest end middle new
+    → IsRead (part rule) [] (λ later. ReadsWrittenRule later text rest raw end) text rest end middle new
     → SoFar text tokens from longer end old new
 one_more_so_far text tokens from rules longer raw rest end old middle new so_far e keeps found =
     let passed = found.passes [] tt in
@@ -100,12 +100,12 @@ one_more_so_far text tokens from rules longer raw rest end old middle new so_far
       parts = so_far.parts ∙ ap (λ us. so_far.front ++ us) passed.are ∙ sym (append_assoc so_far.front passed.passed end);
     }
 
-pub all_read : (text : List ℕ) (tokens : List Token) (from : ℕ) (rules : List RawRule) (rest : List Token) (old new : List (List ℕ)) → SoFar text tokens from rules rest old new
+pub all_read : (text : List ℕ) (tokens : List Token) (from : ℕ) (rules : List WrittenRule) (rest : List Token) (old new : List (List ℕ)) → SoFar text tokens from rules rest old new
     → (later : List (List ℕ)) → KeepsNames new later → ReadsRules later text (drop from tokens) rules rest
 all_read text tokens from rules rest old new so_far later keeps =
     subst (λ x. ReadsRules later text (drop from tokens) x rest) (append-nil rules) (so_far.reads later keeps [] rest refl)
 
-pub all_whole : (text : List ℕ) (tokens : List Token) (from : ℕ) (rules : List RawRule) (rest : List Token) (old new : List (List ℕ)) → SoFar text tokens from rules rest old new → IsWhole line (repeated (part rule)) (drop from tokens) rest
+pub all_whole : (text : List ℕ) (tokens : List Token) (from : ℕ) (rules : List WrittenRule) (rest : List Token) (old new : List (List ℕ)) → SoFar text tokens from rules rest old new → IsWhole line (repeated (part rule)) (drop from tokens) rest
 all_whole text tokens from rules rest old new so_far = rules_whole new text (drop from tokens) rest rules (all_read text tokens from rules rest old new so_far new (λ k t i. i))
 
 pub no_rule_at : (tokens rest : List Token) (place : ℕ) → rest ≡ drop place tokens → NextIsNo begins_tree rest → NoRuleAt tokens place

@@ -17,8 +17,8 @@ use Rattle.qs_pattern.specs.Conditions.{Condition, Conditions, no_condition, con
 use Rattle.qs_pattern.specs.Rules.{Rule}
 use Rattle.qs_pattern.specs.Patterns.{Patterns, no_pattern, node_first, tree_var_first, forest_var_first, count, IsHeadInClass, AreInClass, NoForestAtTop}
 use Rattle.qs_ruletext.specs.Reading.{IsHeadOf, IsVariableOf, joined, ReadsTree, reads_node, reads_tree_variable, ReadsSubtrees, no_parentheses, nothing_inside, list_inside, ReadsList, reads_list, ReadsMoreItems, no_more_items, one_more_item, ReadsItem, reads_tree, reads_forest_variable, ReadsMoreTrees, no_more_trees, one_more_tree, ReadsSide, reads_side, any_of, all_of, ReadsCond, reads_cond, ReadsMoreConjs, no_more_conjs, one_more_conj, ReadsConj, reads_conj, ReadsMoreNegs, no_more_negs, one_more_neg, ReadsNeg, not_negated, reads_negated, ReadsPrim, reads_group, reads_within, reads_outside}
-use Rattle.qs_ruletext.specs.Rules.{ReadsCondIfGiven, no_cond, some_cond, ReadsRule, reads_rule, ReadsRules, rule_of, IsWellRead, IsWellReadIfGiven}
-use Rattle.qs_ruletext.specs.declared.raw.RawRule.{RawRule}
+use Rattle.qs_ruletext.specs.Rules.{ReadsCondIfGiven, no_cond, some_cond, ReadsRule, reads_rule, ReadsRules, IsWellRead, IsWellReadIfGiven}
+use Rattle.qs_ruletext.specs.WrittenRules.{WrittenRule}
 use Rattle.std.specs.List.{All}
 use Rattle.std.proofs.lemmas.List.Elements.{All-nil, All-cons}
 use Rattle.qs_ruletext.proofs.FullLists.{full_cond}
@@ -176,7 +176,7 @@ told_rule (reads_rule {left} {right} {condition} l e r given f) =
     told_given no_cond = tt
     told_given (some_cond e c) = let d = told_cond c in record { named = d.0; in_class = d.1; enough = d.2; lists = full_cond c }
 
-pub told_rules : (names : List (List ℕ)) (text : List ℕ) (ts rest : List Token) (raws : List RawRule) → ReadsRules names text ts raws rest
-    → All (λ raw. IsWellRead (length names) (rule_of raw)) raws
-told_rules names text ts rest [] e = All-nil (λ raw. IsWellRead (length names) (rule_of raw))
-told_rules names text ts rest (raw ∷ raws) h = All-cons (λ raw. IsWellRead (length names) (rule_of raw)) raw raws (told_rule h.1.rule) (told_rules names text h.0 rest raws h.2)
+pub told_rules : (names : List (List ℕ)) (text : List ℕ) (ts rest : List Token) (raws : List WrittenRule) → ReadsRules names text ts raws rest
+    → All (λ raw. IsWellRead (length names) raw.rule) raws
+told_rules names text ts rest [] e = All-nil (λ raw. IsWellRead (length names) raw.rule)
+told_rules names text ts rest (raw ∷ raws) h = All-cons (λ raw. IsWellRead (length names) raw.rule) raw raws (told_rule h.1.rule) (told_rules names text h.0 rest raws h.2)

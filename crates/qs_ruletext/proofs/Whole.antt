@@ -8,7 +8,7 @@ use Rattle.qs_pattern.specs.declared.pattern.Head.TheVariants as head
 use Rattle.qs_pattern.specs.Patterns.{Patterns}
 use Rattle.qs_pattern.specs.Conditions.{Condition, Conditions}
 use Rattle.qs_pattern.specs.Rules.{Rule}
-use Rattle.qs_ruletext.specs.declared.raw.RawRule.{RawRule}
+use Rattle.qs_ruletext.specs.WrittenRules.{WrittenRule}
 use Rattle.qs_ruletext.specs.Grammar.{rule, side, tree, list, item, cond, conj, neg, prim, line}
 use Rattle.qs_ruletext.specs.Reading.{IsHeadOf, ReadsTree, reads_node, reads_tree_variable, ReadsSubtrees, no_parentheses, nothing_inside, list_inside, ReadsList, reads_list, ReadsMoreItems, no_more_items, one_more_item, ReadsItem, reads_tree, reads_forest_variable, ReadsMoreTrees, no_more_trees, one_more_tree, ReadsSide, reads_side, ReadsCond, reads_cond, ReadsMoreConjs, no_more_conjs, one_more_conj, ReadsConj, reads_conj, ReadsMoreNegs, no_more_negs, one_more_neg, ReadsNeg, not_negated, reads_negated, ReadsPrim, reads_group, reads_within, reads_outside}
 use Rattle.qs_ruletext.specs.Rules.{ReadsCondIfGiven, no_cond, some_cond, ReadsRule, reads_rule, ReadsRules}
@@ -78,6 +78,6 @@ given_whole (some_cond e c) = not_left_out (whole_sequence (whole_token e) (cond
 pub rule_whole : {names : List (List ℕ)} {text : List ℕ} {ts rest : List Token} {r : Rule} → ReadsRule names text ts r rest → IsWhole line (part rule) ts rest
 rule_whole (reads_rule left e right given f) = whole_part (whole_sequence (side_whole left) (whole_sequence (whole_token e) (whole_sequence (side_whole right) (whole_sequence (given_whole given) (whole_token f)))))
 
-pub rules_whole : (names : List (List ℕ)) (text : List ℕ) (ts rest : List Token) (rules : List RawRule) → ReadsRules names text ts rules rest → IsWhole line (repeated (part rule)) ts rest
+pub rules_whole : (names : List (List ℕ)) (text : List ℕ) (ts rest : List Token) (rules : List WrittenRule) → ReadsRules names text ts rules rest → IsWhole line (repeated (part rule)) ts rest
 rules_whole names text ts rest [] e = subst (λ us. IsWhole line (repeated (part rule)) ts us) e no_more
 rules_whole names text ts rest (r ∷ rules) h = one_more (rule_whole h.1.rule) (rules_whole names text h.0 rest rules h.2)

@@ -1,13 +1,13 @@
 -- What is read from the tokens of rules, and where rules can't go on.
-use Rattle.std.specs.Prelude.{◌≡◌, ℕ, ◌-◌, ◌<◌, ◌≤◌, Bool, true, false, List, [], ◌∷◌, ◌++◌, length, take, drop, map, filter, Option, Some, None, option_map, slice_get}
+use Rattle.std.specs.Prelude.{◌≡◌, ℕ, ◌-◌, ◌<◌, ◌≤◌, Bool, true, false, List, [], ◌∷◌, ◌++◌, length, take, drop, map, filter, Option, Some, None, slice_get}
 use Rattle.qs_lex.specs.declared.token.Token.{Token}
 use Rattle.qs_lex.specs.declared.token.Kind.{Kind}
 use Rattle.qs_lex.specs.declared.token.Kind.TheVariants.{Bare, Quoted, Variable}
 use Rattle.qs_lex.specs.Grammar.{slash, equals, stop, IsOf, part, repeated, IsWhole, Begins}
-use Rattle.qs_pattern.specs.Patterns.{Patterns, patterns, count, AreInClass, NoForestAtTop}
-use Rattle.qs_pattern.specs.Conditions.{Condition, condition_of, IsConditionInClass, HasEnoughMembers}
+use Rattle.qs_pattern.specs.Patterns.{Patterns, count, AreInClass, NoForestAtTop}
+use Rattle.qs_pattern.specs.Conditions.{Condition, IsConditionInClass, HasEnoughMembers}
 use Rattle.qs_pattern.specs.Rules.{Rule}
-use Rattle.qs_ruletext.specs.declared.raw.RawRule.{RawRule}
+use Rattle.qs_ruletext.specs.WrittenRules.{WrittenRule}
 use Rattle.qs_ruletext.specs.declared.raw.TextEnd.{TextEnd}
 use Rattle.qs_ruletext.specs.declared.raw.TextEnd.TheVariants.{Syntax, Memory}
 use Rattle.qs_ruletext.specs.Grammar.{rule, line}
@@ -62,21 +62,17 @@ pub record IsWellRead (n : ℕ) (r : Rule) : Type 0 where
   pub right : IsWellReadSide n r.right
   pub condition : IsWellReadIfGiven n r.condition
 
--- the rule that was read
-abbrev pub rule_of : RawRule → Rule
-rule_of raw = record { left = patterns raw.left.items; right = patterns raw.right.items; condition = option_map condition_of raw.cond }
-
 -- the tokens before the rest are read as this rule, and it knows the byte of each of its cells
-pub record ReadsRawRule (names : List (List ℕ)) (text : List ℕ) (ts : List Token) (raw : RawRule) (rest : List Token) : Type 0 where
-  pub rule : ReadsRule names text ts (rule_of raw) rest
+pub record ReadsWrittenRule (names : List (List ℕ)) (text : List ℕ) (ts : List Token) (raw : WrittenRule) (rest : List Token) : Type 0 where
+  pub rule : ReadsRule names text ts raw.rule rest
   pub tokens : List Token
   pub are : ts ≡ tokens ++ rest
-  pub at : raw.at.items ≡ cell_bytes tokens
+  pub at : raw.at ≡ cell_bytes tokens
 
 -- the tokens before the rest are read as these rules, one behind the other
-abbrev pub ReadsRules : List (List ℕ) → List ℕ → List Token → List RawRule → List Token → Type 0
+abbrev pub ReadsRules : List (List ℕ) → List ℕ → List Token → List WrittenRule → List Token → Type 0
 ReadsRules names text ts [] rest = ts ≡ rest
-ReadsRules names text ts (raw ∷ raws) rest = (middle : List Token) × ReadsRawRule names text ts raw middle × ReadsRules names text middle raws rest
+ReadsRules names text ts (raw ∷ raws) rest = (middle : List Token) × ReadsWrittenRule names text ts raw middle × ReadsRules names text middle raws rest
 
 -- the texts of `new` begin with those of `old`: each keeps its number
 abbrev pub KeepsNames : List (List ℕ) → List (List ℕ) → Type 0

@@ -7,9 +7,9 @@ ghost use Rattle.qs_lex.specs.Tokens.{Reads, AreTokensOf, IsTokenOf};
 ghost use Rattle.qs_lex.specs.Grammar.{part, repeated, IsWhole};
 ghost use Rattle.qs_tree.specs.Names.{AreDistinct};
 ghost use Rattle.qs_pattern.specs.Rules.{Rule};
-ghost use Rattle.qs_ruletext.specs.declared.raw.RawRule.{RawRule};
+ghost use Rattle.qs_ruletext.specs.WrittenRules.{WrittenRule};
 ghost use Rattle.qs_ruletext.specs.Grammar.{rule, line};
-ghost use Rattle.qs_ruletext.specs.Rules.{ReadsRule, ReadsRules, IsWellRead, rule_of, NoRuleAt};
+ghost use Rattle.qs_ruletext.specs.Rules.{ReadsRule, ReadsRules, IsWellRead, NoRuleAt};
 ghost use Rattle.qs_ruletext.specs.Endings.{NoRuleIn};
 ghost use Rattle.qs_ruletext.specs.Names.{NamesGrow};
 ghost use Rattle.qs_ruletext.specs.Written.{AreOnOneLine, written};
@@ -17,7 +17,7 @@ ghost use Rattle.qs_ruletext.specs.Written.{AreOnOneLine, written};
 /// What is read is whole by the grammar.
 pub fn what_is_read_is_whole()
     ensures rule { (names : List (List ℕ)) (text : List ℕ) (ts rest : List Token) (r : Rule) → ReadsRule names text ts r rest → IsWhole line (part rule) ts rest }
-    ensures rules { (names : List (List ℕ)) (text : List ℕ) (ts rest : List Token) (raws : List RawRule) → ReadsRules names text ts raws rest → IsWhole line (repeated (part rule)) ts rest }
+    ensures rules { (names : List (List ℕ)) (text : List ℕ) (ts rest : List Token) (raws : List WrittenRule) → ReadsRules names text ts raws rest → IsWhole line (repeated (part rule)) ts rest }
 {}
 
 /// From the same names the same tokens lead to one list of names. No text stands in it twice if none did before. Where some
@@ -40,7 +40,7 @@ pub fn what_is_read_is_well_made()
 /// exactly where the tokens from that place on don't go on with one.
 pub fn one_reading()
     ensures rule { (names : List (List ℕ)) (text : List ℕ) (ts rest end : List Token) (r s : Rule) → AreDistinct names → ReadsRule names text ts r rest → ReadsRule names text ts s end → (r ≡ s) × (rest ≡ end) }
-    ensures rules { (names : List (List ℕ)) (text : List ℕ) (ts rest end : List Token) (raws others : List RawRule) → AreDistinct names → ReadsRules names text ts raws rest → ReadsRules names text ts others end → NoRuleIn rest → NoRuleIn end → (map rule_of raws ≡ map rule_of others) × (map (λ raw. raw.at.items) raws ≡ map (λ raw. raw.at.items) others) × (rest ≡ end) }
+    ensures rules { (names : List (List ℕ)) (text : List ℕ) (ts rest end : List Token) (raws others : List WrittenRule) → AreDistinct names → ReadsRules names text ts raws rest → ReadsRules names text ts others end → NoRuleIn rest → NoRuleIn end → (map (λ raw. raw.rule) raws ≡ map (λ raw. raw.rule) others) × (map (λ raw. raw.at) raws ≡ map (λ raw. raw.at) others) × (rest ≡ end) }
     ensures place { (tokens : List Token) (at : ℕ) → NoRuleAt tokens at ↔ NoRuleIn (drop at tokens) }
 {}
 

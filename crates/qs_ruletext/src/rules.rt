@@ -9,7 +9,7 @@ ghost use Rattle.qs_lex.specs.Nesting.{IsTooDeep};
 ghost use Rattle.qs_lex.specs.Grammar.{opening, plus, comma, the_word, slash, one, part, ◌·◌, optional, repeated, IsWhole};
 ghost use Rattle.qs_pattern.specs.Conditions.{condition_of};
 ghost use Rattle.qs_ruletext.specs.Grammar.{rule, cond, line};
-ghost use Rattle.qs_ruletext.specs.Rules.{KeepsNames, ReadsCondIfGiven, ReadsRawRule, ReadsRules, is_cell, cell_bytes, CannotGoOn, NoRuleAt, EndsFrom, rule_of, IsWellRead, between};
+ghost use Rattle.qs_ruletext.specs.Rules.{KeepsNames, ReadsCondIfGiven, ReadsWrittenRule, ReadsRules, is_cell, cell_bytes, CannotGoOn, NoRuleAt, EndsFrom, IsWellRead, between};
 ghost use Rattle.qs_ruletext.specs.Names.{NamesGrow};
 ghost use Rattle.qs_ruletext.specs.Cursors.{Readable, IsRead, Ends, BeginsTree};
 
@@ -72,7 +72,7 @@ fn rule<'t>(
     requires of_text { Readable text.now tokens.now }
     requires room { length names.old + length tokens.now < 2 ^ 32 }
     ensures keeps { KeepsNames names.old names.new }
-    ensures read { IfOk result (λ found. IsRead (part rule) [] (λ later. ReadsRawRule later text.now tokens.now found.0 found.1.now) text.now tokens.now found.1.now names.old names.new) }
+    ensures read { IfOk result (λ found. IsRead (part rule) [] (λ later. ReadsWrittenRule later text.now tokens.now found.0 found.1.now) text.now tokens.now found.1.now names.old names.new) }
     ensures shorter { IfOk result (λ found. length found.1.now < length tokens.now) }
     ensures ends { IfErr result (Ends (part rule) [] tokens.now) }
 {
@@ -126,7 +126,7 @@ pub fn read_rules(
     ensures keeps { KeepsNames names.old names.new }
     // In these names, and in all that keep them.
     ensures read { IfOk result (λ found. (later : _) → KeepsNames names.new later → ReadsRules later text.now (drop from tokens.now) found.0.items (drop found.1 tokens.now)) }
-    ensures made { IfOk result (λ found. All (λ raw. IsWellRead (length names.new) (rule_of raw)) found.0.items) }
+    ensures made { IfOk result (λ found. All (λ raw. IsWellRead (length names.new) raw.rule) found.0.items) }
     ensures whole { IfOk result (λ found. IsWhole line (repeated (part rule)) (drop from tokens.now) (drop found.1 tokens.now)) }
     ensures place { IfOk result (λ found. (from ≤ found.1) × (found.1 ≤ length tokens.now)) }
     ensures behind { IfOk result (λ found. NoRuleAt tokens.now found.1) }

@@ -2,7 +2,7 @@
 
 ghost use Rattle.std.specs.Prelude.{◌≡◌, ◌≤◌, [], length, IfOk};
 ghost use Rattle.std.specs.List.{All};
-ghost use Rattle.qs_ruletext.specs.Rules.{rule_of, IsWellRead};
+ghost use Rattle.qs_ruletext.specs.Rules.{IsWellRead};
 
 use crate::{Memory, RawRule, TextEnd, read_rules, write_rule};
 use qs_lex::{tokens, too_deep};
@@ -19,7 +19,7 @@ fn read(
 ) -> Result<Result<(Vec<RawRule>, usize), TextEnd>, Fail>
     requires short { length text.now ≤ 4194304 }
     requires none { names.old ≡ [] }
-    ensures { IfOk result (λ answer. IfOk answer (λ found. All (λ raw. IsWellRead (length names.new) (rule_of raw)) found.0.items)) }
+    ensures { IfOk result (λ answer. IfOk answer (λ found. All (λ raw. IsWellRead (length names.new) raw.rule) found.0.items)) }
 {
     let found = tokens(alloc, text)?;
     let None = too_deep(&found) else {
@@ -34,7 +34,7 @@ fn read(
 
 /// Appends a rule that was read, in canonical spelling.
 fn append_raw(alloc: Global, raw: &RawRule, names: &Names, out: &mut Vec<u8>) -> Result<(), Memory>
-    requires { IsWellRead (length names.now) (rule_of raw.now) }
+    requires { IsWellRead (length names.now) raw.now.rule }
 {
     match &raw.cond {
         Some(cond) => write_rule(alloc, &raw.left, &raw.right, Some(cond), names, out),

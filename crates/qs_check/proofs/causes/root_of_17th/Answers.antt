@@ -1,4 +1,4 @@
-use Rattle.std.proofs.Common.{◌≡◌, length, take, sym, ◌∙◌, ap, arith}
+use Rattle.std.proofs.Common.{◌≡◌, length, take, ap, arith}
 use Rattle.qs_pattern.specs.Patterns.{patterns}
 use Rattle.qs_check.specs.Cells.{written}
 use Rattle.qs_check.proofs.Sides.{count-patterns, has_17th}

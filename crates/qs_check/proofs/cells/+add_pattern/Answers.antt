@@ -1,4 +1,4 @@
-use Rattle.std.proofs.Common.{◌≡◌, ◌++◌, ◌∷◌, [], sym, ◌∙◌, ap, append_assoc}
+use Rattle.std.proofs.Common.{◌++◌, ◌∷◌, [], sym, ◌∙◌, ap, append_assoc}
 use Rattle.qs_pattern.specs.Patterns.{patterns}
 use Rattle.qs_check.specs.Cells.{written}
 use Rattle.qs_check.proofs.Written.{written_more, written_done, written-Node}

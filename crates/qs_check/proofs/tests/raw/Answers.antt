@@ -19,5 +19,5 @@ returns c =
       right_in_class = subst (λ (ps : List Pattern). AreInClass (patterns ps)) c.deref-2.ensures.value (c.is_side-2.ensures.in_class c.if-not-is_side-2.false);
       condition_in_class = c.in-Some.ensures.in_class;
       members = c.in-Some.ensures.members;
-      bytes = omega (arith, c.in_ok-rule.ensures, c.len.ensures, c.in_ok-cells.cells.ok.0, long, length-rule rule);
+      bytes = omega (arith, c.in_ok-rule-inside.ensures, c.len.ensures, c.in_ok-cells.cells.ok.0, long, length-rule rule);
     }

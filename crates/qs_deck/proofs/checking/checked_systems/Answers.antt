@@ -1,6 +1,6 @@
 use Rattle.std.proofs.Common.{map}
 use Rattle.qs_graphtext.proofs.GraphsOfChains.{err_is}
-use Rattle.qs_deck.specs.Written.{rules_of}
+use Rattle.qs_deck.specs.WrittenDecks.{rules_of}
 use Rattle.qs_deck.specs.Decks.{grammar_of}
 use Rattle.qs_deck.specs.Checked.{IsFirstRefused}
 use Rattle.qs_deck.proofs.CheckSteps.{systems_first, systems_next, can_system, refused_system}
