@@ -1,16 +1,15 @@
 -- Graphs that are written are read as chains of their arcs, wherever they stand in a text.
-use Rattle.std.proofs.Common.{◌≡◌, ℕ, suc, ◌<◌, ◌≤◌, refl, sym, ap, ◌∙◌, subst, inl, inr, List, [], ◌∷◌, ◌++◌, length, drop, arith, codes, append_assoc, length-append}
+use Rattle.std.proofs.Common.{◌≡◌, ℕ, ◌<◌, ◌≤◌, refl, sym, ap, ◌∙◌, subst, inl, inr, List, [], ◌∷◌, ◌++◌, length, arith, codes}
 use Rattle.std.specs.List.{flat_map}
 use Rattle.qs_lex.specs.declared.token.Token.{Token}
 use Rattle.qs_lex.specs.declared.token.Kind.TheVariants.{Node, Word as a_word, Stop}
 use Rattle.qs_lex.specs.declared.token.Word.TheVariants.{Graphe, Fin}
-use Rattle.qs_lex.specs.Tokens.{blank_len, next_place, Reads}
 use Rattle.qs_lex.specs.Grammar.{sort_of}
 use Rattle.qs_tree.specs.Lists.{◌∈◌}
 use Rattle.qs_tree.specs.Text.{tree_text, IsNamed}
 use Rattle.qs_graph.specs.Graphs.{Arc, QGraph}
 use Rattle.qs_ruletext.specs.Written.{AreOnOneLine}
-use Rattle.qs_ruletext.proofs.ReadBack.{IsLeft, left_there, place, Goes, IsOne, IsNone, Both, both, turned, nothing, space, token}
+use Rattle.qs_ruletext.proofs.ReadBack.{Goes, IsOne, Both, both, turned, nothing, space, end_of_line, token}
 use Rattle.qs_graphtext.specs.WrittenChains.{WrittenChain}
 use Rattle.qs_graphtext.specs.Texts.{line, node_mark, arc_line, graph_text}
 use Rattle.qs_graphtext.specs.ChainsOfArcs.{IsChainOf, AreChainsOf}
@@ -24,30 +23,10 @@ pub record IsWritable (n : ℕ) (arc : Arc) : Type 0 where
   pub named : IsNamed n arc.tree
 
 module _ (text : List ℕ) where
-  -- the next place is the same before a line feed and behind it
-  from_feed : (left : List ℕ) (ts : List Token) (next : ℕ) → IsLeft text (10 ∷ left) → Reads text (place text left) ts next → Reads text (place text (10 ∷ left)) ts next
-  from_feed left ts next is r = by_tokens ts r
-    where
-      behind : IsLeft text left
-      behind = record { before = is.before ++ 10 ∷ []; whole = is.whole ∙ sym (append_assoc is.before (10 ∷ []) left) }
-
-      same : next_place text (place text left) ≡ next_place text (place text (10 ∷ left))
-      same =
-          let here : blank_len (drop (place text (10 ∷ left)) text) ≡ suc (blank_len left) = ap blank_len (left_there is) in
-          let there : blank_len (drop (place text left) text) ≡ blank_len left = ap blank_len (left_there behind) in
-          omega (arith, here, there, ap length is.whole, length-append is.before (10 ∷ left))
-
-      by_tokens : (us : List Token) → Reads text (place text left) us next → Reads text (place text (10 ∷ left)) us next
-      by_tokens [] e = e ∙ same
-      by_tokens (u ∷ us) e = (e.0 ∙ same, e.1, e.2)
-
-  feed : (left : List ℕ) → Goes text IsNone (10 ∷ []) left
-  feed left = record { go = λ is rest next r. (rest, from_feed left rest next is r, refl) }
-
   -- something and the end of its line
-  lined : {Are : List Token → List Token → Type 0} → (piece left : List ℕ) → Goes text Are piece (codes "\n" ++ left) → Goes text Are (line piece) left
+  pub lined : {Are : List Token → List Token → Type 0} → (piece left : List ℕ) → Goes text Are piece (codes "\n" ++ left) → Goes text Are (line piece) left
   lined {Are} piece left goes =
-      turned text (piece ++ codes "\n") left (λ ts rest x. subst (λ us. Are ts us) x.2 x.1) (both text piece (codes "\n") left goes (feed left))
+      turned text (piece ++ codes "\n") left (λ ts rest x. subst (λ us. Are ts us) x.2 x.1) (both text piece (codes "\n") left goes (end_of_line text left))
 
   mark_goes : (n : ℕ) (left : List ℕ) → (1 ≤ n) × (n ≤ 999999999) → Goes text (IsOne text (Node n) (node_mark n)) (node_mark n) left
   mark_goes n left fits = token text (Node n) (node_mark n) left (fits.0, fits.1, refl) tt refl

@@ -13,8 +13,11 @@ pub mod Written
 pub mod GraphsOfChains
 pub mod TreesLaid
 pub mod OneReading
+pub mod LabelTexts
 pub mod TreesReadBack
 pub mod GraphsReadBack
 pub mod NodesOnArcs
 pub mod SameGraph
 pub mod WrittenGraphs
+pub mod GraphNesting
+pub mod GraphsInUtf8

@@ -5,15 +5,13 @@ use Rattle.std.proofs.Math.Seq.{drop-nil, drop-append_seam, take-append_seam}
 use Rattle.qs_lex.specs.declared.token.Token.{Token}
 use Rattle.qs_lex.specs.Tokens.{IsTokenOf, AreTokensOf}
 use Rattle.qs_lex.specs.Grammar.{sort_of, Form, one, part, IsWhole, whole_token, whole_part, whole_sequence, whole_this, whole_other, left_out, not_left_out, no_more, one_more, Begins, begins_token}
-use Rattle.qs_lex.specs.Expecting.{BeginAll, AllWhole, NotWithNext, Leads, Stops}
+use Rattle.qs_lex.specs.Expecting.{BeginAll, AllWhole, NotWithNext, Stops}
 use Rattle.qs_lex.proofs.Expected.{whole_begins}
-use Rattle.qs_tree.specs.declared.cell.Label.{Label}
 use Rattle.qs_tree.specs.Lists.{◌∈◌}
-use Rattle.qs_tree.specs.Trees.{Forest, no_tree, first_tree, Tree}
+use Rattle.qs_tree.specs.Trees.{Forest, Tree}
 use Rattle.qs_tree.specs.Text.{IsNamed, AreNamed as ForestIsNamed}
 use Rattle.qs_ruletext.specs.declared.cursor.Halt.{Halt}
 use Rattle.qs_ruletext.specs.declared.cursor.Halt.TheVariants.{Syntax}
-use Rattle.qs_ruletext.specs.Reading.{IsLabelOf}
 use Rattle.qs_ruletext.specs.Rules.{between}
 use Rattle.qs_graphtext.specs.WrittenChains.{WrittenChain}
 use Rattle.qs_graphtext.specs.Grammar.{Part, graph, line}

@@ -1,10 +1,10 @@
 -- The grammar of graphs has no empty part, and the table says with which sorts each may begin.
-use Rattle.std.proofs.Common.{◌≡◌, ℕ, ◌+◌, ◌≤◌, Bool, true, false, refl, sym, ◌∙◌, ap, subst, List, [], ◌∷◌, ◌++◌, length, arith, Result, Ok, Err}
+use Rattle.std.proofs.Common.{◌≡◌, ℕ, ◌+◌, Bool, true, false, refl, sym, ◌∙◌, ap, subst, List, [], ◌∷◌, ◌++◌, length, arith, Result}
 use Rattle.std.specs.Prelude.{IfErr, IsErrAnd}
 use Rattle.std.proofs.lemmas.Result.{err_from_is_err_and}
 use Rattle.qs_lex.specs.declared.token.Token.{Token}
-use Rattle.qs_lex.specs.Grammar.{Sort, sort_of, IsOf, Form, one}
-use Rattle.qs_lex.specs.Expecting.{nullable, first, starts, same_sort, NextIsNo, Refuse, may_end, Leads, Stops}
+use Rattle.qs_lex.specs.Grammar.{Sort, Form, one}
+use Rattle.qs_lex.specs.Expecting.{nullable, first, starts, NextIsNo, Refuse, may_end, Leads}
 use Rattle.qs_lex.proofs.Expected.{IsTable}
 use Rattle.qs_lex.proofs.Going.{leads_token, stops_here, stops_behind}
 use Rattle.qs_ruletext.specs.declared.cursor.Halt.{Halt}

@@ -13,6 +13,7 @@ pub mod RulesRead
 pub mod PatternTexts
 pub mod ConditionTexts
 pub mod OneReading
+pub mod LabelTexts
 pub mod OneRules
 pub mod ReadBack
 pub mod HeadsReadBack
@@ -20,3 +21,10 @@ pub mod PatternsReadBack
 pub mod ConditionsReadBack
 pub mod RulesReadBack
 pub mod OneLine
+pub mod Nesting
+pub mod NestingSteps
+pub mod NestingRead
+pub mod NestingWritten
+pub mod AtOnce
+pub mod NamesInUtf8
+pub mod TextsInUtf8

@@ -1,11 +1,11 @@
 -- How what is written is read, from right to left: where what stands behind a piece of a text is read, the piece and what
 -- stands behind it are.
-use Rattle.std.proofs.Common.{◌≡◌, ℕ, suc, ◌-◌, refl, sym, ap, ◌∙◌, subst, List, [], ◌∷◌, ◌++◌, length, take, drop, arith, append_assoc, length-append}
+use Rattle.std.proofs.Common.{◌≡◌, ℕ, suc, ◌+◌, ◌-◌, refl, sym, ap, ◌∙◌, subst, List, [], ◌∷◌, ◌++◌, length, take, drop, arith, append_assoc, append-nil, length-append}
 use Rattle.std.proofs.lemmas.List.{take_at, drop_at}
 use Rattle.qs_lex.specs.declared.token.Token.{Token}
 use Rattle.qs_lex.specs.declared.token.Kind.{Kind}
 use Rattle.qs_lex.specs.Spelling.{Spells, EndsBefore}
-use Rattle.qs_lex.specs.Tokens.{blank_len, next_place, bytes_of, StandsIn, Reads}
+use Rattle.qs_lex.specs.Tokens.{blank_len, next_place, bytes_of, StandsIn, Reads, AreTokensOf}
 
 -- this is what is left of the text from some place on
 pub record IsLeft (text left : List ℕ) : Type 0 where
@@ -113,3 +113,25 @@ module _ (text : List ℕ) where
       turned (32 ∷ (bytes ++ 32 ∷ [])) left
       (λ ts rest x. (x.2.1.0, x.1 ∙ x.2.1.1 ∙ ap (λ us. x.2.1.0 ∷ us) x.2.2, x.2.1.2, x.2.1.3))
       (both (32 ∷ []) (bytes ++ 32 ∷ []) left (space ((bytes ++ 32 ∷ []) ++ left)) (both bytes (32 ∷ []) left (token kind bytes (32 ∷ left) spelled ends no_blank) (space left)))
+
+-- a piece between other things: where the tokens behind it are read, it and those tokens are
+pub amid : {Are : List Token → List Token → Type 0} → (before piece behind : List ℕ) (rest : List Token) (next : ℕ) → Goes (before ++ (piece ++ behind)) Are piece behind
+    → Reads (before ++ (piece ++ behind)) (length before + length piece) rest next
+    → (ts : List Token) × Reads (before ++ (piece ++ behind)) (length before) ts next × Are ts rest
+amid before piece behind rest next goes reads =
+    let text : List ℕ = before ++ (piece ++ behind) in
+    let to : place text behind ≡ length before + length piece = omega (arith, length-append before (piece ++ behind), length-append piece behind) in
+    let from : place text (piece ++ behind) ≡ length before = omega (arith, length-append before (piece ++ behind)) in
+    let x = goes.go (record { before = before; whole = refl }) rest next (subst (λ k. Reads text k rest next) (sym to) reads) in
+    (x.0, subst (λ k. Reads text k x.0 next) from x.1, x.2)
+
+-- a whole text
+pub alone : {Are : List Token → List Token → Type 0} → (text : List ℕ) → Goes text Are text [] → (ts : List Token) × AreTokensOf text ts × Are ts []
+alone text goes =
+    let is : IsLeft text (text ++ []) = record { before = []; whole = sym (append-nil text) } in
+    let end : IsLeft text [] = record { before = text; whole = sym (append-nil text) } in
+    let ends : length text ≡ place text [] + blank_len [] = omega arith in
+    let reads : Reads text (place text []) [] (length text) = ends ∙ ap (λ bs. place text [] + blank_len bs) (sym (left_there end)) in
+    let x = goes.go is [] (length text) reads in
+    let from : place text (text ++ []) ≡ 0 = omega (arith, ap length (append-nil text)) in
+    (x.0, subst (λ k. Reads text k x.0 (length text)) from x.1, x.2)

@@ -1,8 +1,8 @@
 -- Rules that are written are read as they were, wherever they stand in a text.
-use Rattle.std.proofs.Common.{◌≡◌, ℕ, ◌+◌, refl, sym, ap, ◌∙◌, subst, List, [], ◌++◌, length, arith, codes, append-nil, length-append, Option, Some, None}
+use Rattle.std.proofs.Common.{◌≡◌, ℕ, ◌+◌, refl, sym, ap, subst, List, [], ◌++◌, length, codes, Option, Some, None}
 use Rattle.qs_lex.specs.declared.token.Token.{Token}
 use Rattle.qs_lex.specs.declared.token.Kind.TheVariants.{Slash, Equals, Stop}
-use Rattle.qs_lex.specs.Tokens.{blank_len, Reads, AreTokensOf}
+use Rattle.qs_lex.specs.Tokens.{Reads, AreTokensOf}
 use Rattle.qs_lex.specs.Grammar.{sort_of}
 use Rattle.qs_pattern.specs.Conditions.{Condition}
 use Rattle.qs_pattern.specs.Rules.{Rule}
@@ -10,7 +10,7 @@ use Rattle.qs_ruletext.specs.Reading.{ReadsSide}
 use Rattle.qs_ruletext.specs.Rules.{ReadsCondIfGiven, no_cond, some_cond, ReadsRule, reads_rule, IsWellReadSide, IsWellReadIfGiven, IsWellRead}
 use Rattle.qs_ruletext.specs.Texts.{side_text, condition_text, condition_part}
 use Rattle.qs_ruletext.specs.Written.{AreOnOneLine, written}
-use Rattle.qs_ruletext.proofs.ReadBack.{IsLeft, left_there, place, Goes, both, turned, nothing, token, spaced}
+use Rattle.qs_ruletext.proofs.ReadBack.{Goes, both, turned, nothing, token, spaced, amid, alone}
 use Rattle.qs_ruletext.proofs.HeadsReadBack.{Closes}
 use Rattle.qs_ruletext.proofs.PatternsReadBack.{sides_go}
 use Rattle.qs_ruletext.proofs.ConditionsReadBack.{cond_goes}
@@ -68,26 +68,13 @@ pub rule_within : (names : List (List ℕ)) (before behind : List ℕ) (r : Rule
     → Reads (before ++ (written names r ++ behind)) (length before + length (written names r)) rest next
     → (ts : List Token) × Reads (before ++ (written names r ++ behind)) (length before) ts next
     × ReadsRule names (before ++ (written names r ++ behind)) ts r rest
-rule_within names before behind r rest next line w reads =
-    let piece : List ℕ = written names r in
-    let text : List ℕ = before ++ (piece ++ behind) in
-    let to : place text behind ≡ length before + length piece = omega (arith, length-append before (piece ++ behind), length-append piece behind) in
-    let from : place text (piece ++ behind) ≡ length before = omega (arith, length-append before (piece ++ behind)) in
-    let x = (rule_goes names text line r w behind).go (record { before = before; whole = refl }) rest next (subst (λ k. Reads text k rest next) (sym to) reads) in
-    (x.0, subst (λ k. Reads text k x.0 next) from x.1, x.2)
+rule_within names before behind r rest next line w =
+    amid before (written names r) behind rest next (rule_goes names (before ++ (written names r ++ behind)) line r w behind)
 
 -- a rule alone
 pub rule_alone : (names : List (List ℕ)) (r : Rule) → AreOnOneLine names → IsWellRead (length names) r
     → (ts : List Token) × AreTokensOf (written names r) ts × ReadsRule names (written names r) ts r []
-rule_alone names r line w =
-    let text : List ℕ = written names r in
-    let is : IsLeft text (text ++ []) = record { before = []; whole = sym (append-nil text) } in
-    let end : IsLeft text [] = record { before = text; whole = sym (append-nil text) } in
-    let ends : length text ≡ place text [] + blank_len [] = omega arith in
-    let reads : Reads text (place text []) [] (length text) = ends ∙ ap (λ bs. place text [] + blank_len bs) (sym (left_there end)) in
-    let x = (rule_goes names text line r w []).go is [] (length text) reads in
-    let from : place text (text ++ []) ≡ 0 = omega (arith, ap length (append-nil text)) in
-    (x.0, subst (λ k. Reads text k x.0 (length text)) from x.1, x.2)
+rule_alone names r line w = alone (written names r) (rule_goes names (written names r) line r w [])
 
 -- and it is read as that rule only
 pub rule_only : (names : List (List ℕ)) (r s : Rule) (ts rest : List Token) → AreDistinct names → AreOnOneLine names → IsWellRead (length names) r

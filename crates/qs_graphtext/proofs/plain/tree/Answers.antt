@@ -1,6 +1,4 @@
-use Rattle.std.proofs.Common.{◌≡◌, refl, sym, ap, ◌∙◌, [], ◌∷◌, ◌++◌, List}
-use Rattle.qs_tree.specs.declared.cell.Cell.{Cell}
-use Rattle.qs_tree.specs.Cells.{tree_of}
+use Rattle.std.proofs.Common.{◌∙◌}
 use Rattle.qs_graphtext.proofs.Cells.{whole_tree, tree_is, from_nothing}
 use Rattle.qs_graphtext.proofs.PlainSteps.{same_tree}
 use Rattle.qs_graphtext.proofs.plain.tree.Goals as goal

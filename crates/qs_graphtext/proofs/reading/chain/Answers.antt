@@ -1,4 +1,4 @@
-use Rattle.std.proofs.Common.{◌≡◌, [], ◌∷◌}
+use Rattle.std.proofs.Common.{[], ◌∷◌}
 use Rattle.qs_lex.specs.Grammar.{part}
 use Rattle.qs_graphtext.specs.Grammar.{chain}
 use Rattle.qs_graphtext.specs.Readers.{Ends}

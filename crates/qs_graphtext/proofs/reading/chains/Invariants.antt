@@ -1,4 +1,4 @@
-use Rattle.std.proofs.Common.{ℕ, ◌++◌, [], ◌∷◌, List, length}
+use Rattle.std.proofs.Common.{◌++◌, [], ◌∷◌, List, length}
 use Rattle.qs_lex.specs.declared.token.Token.{Token}
 use Rattle.qs_lex.specs.Grammar.{a_node_mark, part}
 use Rattle.qs_graphtext.specs.WrittenChains.{WrittenChain}
