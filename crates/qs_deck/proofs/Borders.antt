@@ -1,5 +1,5 @@
 -- Tokens of a text begin between characters, and are no more than its bytes.
-use Rattle.std.proofs.Common.{◌≡◌, ℕ, ◌+◌, ◌≤◌, ◌<◌, List, [], ◌∷◌, length, refl, sym, ◌∙◌, ap, subst, inl, inr, arith}
+use Rattle.std.proofs.Common.{◌≡◌, ℕ, ◌+◌, ◌≤◌, List, [], ◌∷◌, length, refl, sym, ◌∙◌, ap, subst, inl, inr, arith}
 use Rattle.std.specs.Prelude.{IsCharBoundary, Result, Ok, Err, ◌==◌, not, take, count_by, chars}
 use Rattle.std.specs.List.{suffix_len}
 use Rattle.std.specs.Result.{MatchResult, IsOk}
@@ -8,7 +8,6 @@ use Rattle.qs_lex.specs.Characters.{line_feed}
 use Rattle.qs_lex.specs.declared.refusal.Cause.{Cause}
 use Rattle.qs_lex.specs.declared.refusal.Refusal.{Refusal}
 use Rattle.qs_deck.specs.Answers.{IsRefusedAt}
-use Rattle.std.specs.Str.{IsUtf8}
 use Rattle.qs_tree.specs.Lists.{◌∈◌}
 use Rattle.qs_lex.specs.declared.token.Token.{Token}
 use Rattle.qs_lex.specs.Tokens.{AreSpansFrom}

@@ -17,3 +17,10 @@ pub mod Fronts
 pub mod WholeDecks
 pub mod OneDeck
 pub mod OneFault
+-- That what is written is read as it was.
+pub mod DecksReadBack
+pub mod WritableDecks
+pub mod DecksNested
+pub mod DeckLabels
+pub mod DecksInUtf8
+pub mod DecksAccepted

@@ -65,7 +65,7 @@ lexed bytes text r e u is =
     subst (λ b. IsUtf8 b → IsRefusalOf b r) e (λ v. record { place = is.place; fault = tokens v is.fault; line = is.line; column = is.column }) u
 
 -- what holds of each of a list holds of a member
-all_member : {X : Type 0} (P : X → Type 0) (xs : List X) (x : X) → All P xs → x ∈ xs → P x
+pub all_member : {X : Type 0} (P : X → Type 0) (xs : List X) (x : X) → All P xs → x ∈ xs → P x
 all_member P [] x h i = elim i [ ]
 all_member P (y ∷ ys) x h (inl e) = subst P (sym e) (All-head P y ys h)
 all_member P (y ∷ ys) x h (inr i) = all_member P ys x (All-tail P y ys h) i

@@ -1,6 +1,6 @@
 -- Tokens are read as one deck only: its systems stand one behind the other, the rules of each end at the next -SYSTEME- or at
 -- -GRAPHE-, which begin no rule, and rules and graphs are read in one way.
-use Rattle.std.proofs.Common.{◌≡◌, ℕ, false, refl, sym, ◌∙◌, ap, subst, inl, inr, List, [], ◌∷◌, map}
+use Rattle.std.proofs.Common.{◌≡◌, ℕ, ◌≤◌, false, refl, sym, ◌∙◌, ap, subst, inl, inr, List, [], ◌∷◌, length, map, arith}
 use Rattle.std.specs.Prelude.{◌⊎◌}
 use Rattle.qs_lex.specs.declared.token.Token.{Token}
 use Rattle.qs_lex.specs.declared.token.Word.TheVariants.{Systeme, Graphe}
@@ -40,7 +40,7 @@ same_rules (r ∷ raws) (s ∷ others) e f =
 -- ---- one reading
 
 -- the first token, where there is one, is of this sort
-abbrev NextIs : Sort → List Token → Type 0
+abbrev pub NextIs : Sort → List Token → Type 0
 NextIs s [] = ⊥
 NextIs s (t ∷ ts) = IsOf s t
 
@@ -58,7 +58,7 @@ no_rule_at : (ts : List Token) → IsBorder ts → NoRuleIn ts
 no_rule_at ts (inl is) = no_rule_before (the_word Systeme) ts refl is
 no_rule_at ts (inr is) = no_rule_before (the_word Graphe) ts refl is
 
-not_both_words : (ts : List Token) → NextIs (the_word Systeme) ts → NextIs (the_word Graphe) ts → ⊥
+pub not_both_words : (ts : List Token) → NextIs (the_word Systeme) ts → NextIs (the_word Graphe) ts → ⊥
 not_both_words [] is also = is
 not_both_words (t ∷ ts) is also = one_sort (the_word Systeme) (the_word Graphe) t refl is also
 
@@ -66,8 +66,16 @@ module _ (names : List (List ℕ)) (text : List ℕ) where
   system_next : {ts rest : List Token} {a : WrittenSystem} → ReadsSystem names text ts a rest → NextIs (the_word Systeme) ts
   system_next (reads_system e at label f rules) = e
 
-  graph_next : {ts rest : List Token} {chains : List WrittenChain} → ReadsGraph names text ts chains rest → NextIs (the_word Graphe) ts
+  pub graph_next : {ts rest : List Token} {chains : List WrittenChain} → ReadsGraph names text ts chains rest → NextIs (the_word Graphe) ts
   graph_next (reads_graph e chains f) = e
+
+  -- a deck begins with a system
+  pub deck_next : {ts rest : List Token} {d : WrittenDeck} → ReadsDeck names text ts d rest → NextIs (the_word Systeme) ts
+  deck_next {ts} {d = d} r = by_systems d.systems (r.first ∷ r.behind) r.some r.systems
+    where
+      by_systems : (systems : List WrittenSystem) (end : List Token) → 1 ≤ length systems → ReadsSystems names text ts systems end → NextIs (the_word Systeme) ts
+      by_systems [] end some h = absurd (omega arith)
+      by_systems (s ∷ systems) end some h = system_next h.1
 
   border : (systems : List WrittenSystem) (ts rest : List Token) → ReadsSystems names text ts systems rest → NextIs (the_word Graphe) rest → IsBorder ts
   border [] ts rest e is = inr (subst (λ us. NextIs (the_word Graphe) us) (sym e) is)

@@ -102,7 +102,7 @@ chains_end text ts from (Syntax at) systems old new so_far n e = cannot_go_on ts
 chains_end text ts from Memory systems old new so_far n e = tt
 
 -- the whole deck
-first_of : {names : List (List ℕ)} {text : List ℕ} {ts rest : List Token} {chains : List WrittenChain} → ReadsGraph names text ts chains rest
+pub first_of : {names : List (List ℕ)} {text : List ℕ} {ts rest : List Token} {chains : List WrittenChain} → ReadsGraph names text ts chains rest
     → (t : Token) × (us : List Token) × (ts ≡ t ∷ us)
 first_of (reads_graph {t} {ts} g r f) = (t, ts, refl)
 

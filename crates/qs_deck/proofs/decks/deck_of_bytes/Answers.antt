@@ -1,5 +1,5 @@
-use Rattle.std.proofs.Common.{sym, subst, ◌∙◌}
-use Rattle.std.specs.Str.{IsValidUpTo, IsUtf8}
+use Rattle.std.proofs.Common.{sym, subst}
+use Rattle.std.specs.Str.{IsValidUpTo}
 use Rattle.std.proofs.lemmas.Str.{utf8_valid_len-IsValidUpTo}
 use Rattle.qs_lex.specs.Refusals.{EndsFor}
 use Rattle.qs_lex.specs.declared.refusal.Cause.TheVariants.{NotUtf8}

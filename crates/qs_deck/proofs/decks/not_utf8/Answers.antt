@@ -1,7 +1,6 @@
-use Rattle.std.proofs.Common.{◌≡◌, length, take, sym, subst, arith}
+use Rattle.std.proofs.Common.{sym, arith}
 use Rattle.std.proofs.lemmas.List.{length-take-le}
 use Rattle.std.proofs.lemmas.Result.{MatchResult-at_ok}
-use Rattle.std.specs.Str.{IsUtf8, IsValidUpTo, valid_up_to}
 use Rattle.qs_lex.specs.declared.refusal.Cause.TheVariants.{NotUtf8}
 use Rattle.qs_deck.proofs.Borders.{refused_front, read_ok}
 use Rattle.qs_deck.proofs.decks.not_utf8.Goals as goal

@@ -1,8 +1,7 @@
-use Rattle.std.proofs.Common.{subst, sym, take, length, ◌≡◌}
-use Rattle.std.specs.Prelude.{OnErr}
+use Rattle.std.proofs.Common.{subst}
 use Rattle.std.proofs.Math.Seq.{take-length}
 use Rattle.qs_tree.specs.Lists.{◌∈◌}
-use Rattle.qs_tree.proofs.Kept.{kept-further, kept-append}
+use Rattle.qs_tree.proofs.Kept.{kept-append}
 use Rattle.qs_deck.proofs.Errors.{on_err_further}
 use Rattle.qs_deck.proofs.writing.append_system.Goals as goal
 

@@ -2,7 +2,8 @@ use Rattle.std.proofs.Common.{List, map, sym, subst, refl}
 use Rattle.qs_deck.specs.declared.system.System.{System}
 use Rattle.qs_deck.specs.Decks.{grammar_of, IsDeckOf}
 use Rattle.qs_deck.specs.Named.{AreSystemsNamed}
-use Rattle.qsys.proofs.Starting.{deck_accepted, deck_can_go_on}
+use Rattle.qs_deck.proofs.DecksAccepted.{deck_accepted}
+use Rattle.qsys.proofs.Starting.{deck_can_go_on}
 use Rattle.qsys.proofs.Ending.{cascade_defined, check_defined, graph_defined, written_defined}
 use Rattle.qsys.proofs.run.answer.Goals as goal
 
