@@ -45,7 +45,8 @@ block_begun old mid new front text more is (n, within, begun) = (
 
 -- outcomes
 
-all_accepted : (grammars : List Grammar) → AreAccepted grammars → AllAccepted (map (λ grammar. grammar.rules) grammars)
+-- the rules of accepted grammars are accepted, grammar by grammar
+pub all_accepted : (grammars : List Grammar) → AreAccepted grammars → AllAccepted (map (λ grammar. grammar.rules) grammars)
 all_accepted grammars accepted =
     from_map (λ (grammar : Grammar). grammar.rules) grammars (λ (rules : List Rule). (rule : Rule) → rule ∈ rules → IsAccepted rule) accepted
 

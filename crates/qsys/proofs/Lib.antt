@@ -6,3 +6,10 @@ pub mod OptionLemmas
 pub mod CommandLemmas
 pub mod ReadWords
 pub mod Ending
+pub mod RenamedGrammars
+pub mod ReadUnderOthers
+pub mod WrittenUnderOthers
+pub mod DecksUnderOthers
+pub mod Renumbering
+pub mod TwoPieces
+pub mod InTwoPieces

@@ -1,5 +1,6 @@
 pub mod Texts
 pub mod Outcomes
+pub mod Pieces
 pub mod Ends
 pub mod Defined
 pub mod Words

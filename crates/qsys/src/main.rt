@@ -6,6 +6,7 @@ mod blocks;
 mod cascade;
 pub mod defined_laws;
 pub mod job;
+pub mod laws;
 mod refusals;
 pub mod run;
 pub mod status;

@@ -1,0 +1,143 @@
+-- A cascade of two parts may be run in two pieces: what is printed between them, behind the second part, is read under names of
+-- its own, and labels are numbers alone.
+use Rattle.std.proofs.Common.{◌≡◌, ℕ, ◌≤◌, ◌<◌, List, [], ◌∷◌, ◌++◌, length, map, Contains, refl, sym, ap, ◌∙◌, subst, ⊎_elim, arith, length-append}
+use Rattle.qs_lex.specs.declared.token.Token.{Token}
+use Rattle.qs_lex.specs.declared.token.Word.TheVariants.{Graphe}
+use Rattle.qs_lex.specs.Grammar.{the_word}
+use Rattle.qs_lex.specs.Tokens.{AreTokensOf}
+use Rattle.qs_lex.proofs.Readings.{one_list}
+use Rattle.qs_tree.specs.declared.cell.Label.{Label}
+use Rattle.qs_tree.specs.Lists.{◌∈◌}
+use Rattle.qs_tree.specs.Names.{AreDistinct}
+use Rattle.qs_tree.specs.Text.{name_of}
+use Rattle.qs_tree.proofs.Members.{in_append_left, in_append_right}
+use Rattle.qs_pattern.specs.Rules.{Rule}
+use Rattle.qs_ruletext.specs.Names.{NamesGrow}
+use Rattle.qs_ruletext.specs.Written.{AreOnOneLine}
+use Rattle.qs_ruletext.proofs.LabelTexts.{texts_named, new_names_are_texts}
+use Rattle.qs_graph.specs.Graphs.{QGraph, IsValid}
+use Rattle.qs_graphtext.specs.GraphOfChains.{trees_in, graph_of}
+use Rattle.qs_graphtext.specs.Texts.{graph_text, AreArcsNamed}
+use Rattle.qs_graphtext.proofs.LabelTexts.{labels_in_trees}
+use Rattle.qs_graphtext.proofs.WrittenGraphs.{graph_alone}
+use Rattle.qs_clean.specs.Cascades.{Cascade, Left, Ending}
+use Rattle.qs_clean.specs.Renaming.{IsRenaming, renamed_rule, renamed_graph, renamed_left}
+use Rattle.qs_clean.proofs.RenamedCascades as renamed
+use Rattle.qs_deck.specs.WrittenDecks.{WrittenDeck}
+use Rattle.qs_deck.specs.Reading.{ReadsDeck}
+use Rattle.qs_deck.specs.Decks.{Grammar, meaning_of, IsDeckOf}
+use Rattle.qs_deck.specs.Texts.{deck_text}
+use Rattle.qs_deck.proofs.OneDeck.{NextIs, not_both_words, graph_next, deck_next, one_deck}
+use Rattle.qs_deck.proofs.DecksReadBack.{IsWritableGrammar, ReadsBack, deck_read_back}
+use Rattle.qs_deck.proofs.WritableDecks.{names_of_deck, writable_deck}
+use Rattle.qs_deck.proofs.DeckLabels.{labels_in_grammars, deck_passes}
+use Rattle.qs_deck.proofs.DecksAccepted.{deck_accepted, deck_texts}
+use Rattle.qsys.specs.Outcomes.{blocks, IsOutcome}
+use Rattle.qsys.specs.Cascading.{AreAccepted}
+use Rattle.qsys.specs.Pieces.{Leaves}
+use Rattle.qsys.proofs.NodesFew.{nodes_few}
+use Rattle.qsys.proofs.GoingOn.{all_accepted}
+use Rattle.qsys.proofs.Starting.{systems_few, arcs_few}
+use Rattle.qsys.proofs.RenamedGrammars.{Carries, renamed_grammar}
+use Rattle.qsys.proofs.ReadUnderOthers.{chains_renamed}
+use Rattle.qsys.proofs.WrittenUnderOthers.{blocks_under}
+use Rattle.qsys.proofs.DecksUnderOthers.{renamed_deck, meanings_renamed, deck_under}
+use Rattle.qsys.proofs.Renumbering.{renaming}
+use Rattle.qsys.proofs.TwoPieces.{outcome_together, lefts_named, left_valid, left_named, left_small}
+
+-- what is printed without a grammar is no deck
+no_deck : (names others : List (List ℕ)) (H : QGraph) (more : List Grammar) (K : QGraph) → AreOnOneLine names → IsValid H → H.nodes ≤ 999999999 → AreArcsNamed (length names) H.arcs
+    → IsDeckOf (deck_text names [] H) others more K → ⊥
+no_deck names others H more K line valid small named printed =
+    let text : List ℕ = graph_text names H in
+    let w = printed.is_written in
+    let back = graph_alone names H line valid small named in
+    let same : back.0 ≡ w.tokens = one_list text back.0 w.tokens back.1 w.has_tokens.are_tokens in
+    not_both_words w.tokens (deck_next others text w.reads) (subst (λ us. NextIs (the_word Graphe) us) same (graph_next names text back.2.reads))
+
+-- rules with other numbers for their labels, grammar by grammar
+rules_of_renamed : (g : ℕ → ℕ) (grammars : List Grammar)
+    → map (map (renamed_rule g)) (map (λ (grammar : Grammar). grammar.rules) grammars) ≡ map (λ (grammar : Grammar). grammar.rules) (map (renamed_grammar g) grammars)
+rules_of_renamed g [] = refl
+rules_of_renamed g (grammar ∷ grammars) = ap (λ (rs : List (List Rule)). map (renamed_rule g) grammar.rules ∷ rs) (rules_of_renamed g grammars)
+
+-- grammars of an accepted text, and a graph that is left, which is printed behind the second part of them and read again
+module _ (limit : ℕ) (names others : List (List ℕ)) (Q more : List Grammar) (H K : QGraph)
+    (line : AreOnOneLine names) (distinct : AreDistinct names) (writable : (grammar : Grammar) → grammar ∈ Q → IsWritableGrammar (length names) grammar)
+    (valid : IsValid H) (small : H.nodes ≤ 999999999) (named : AreArcsNamed (length names) H.arcs)
+    (printed : IsDeckOf (deck_text names Q H) others more K) where
+  abbrev text : List ℕ
+  text = deck_text names Q H
+
+  some : (R : List Grammar) → IsDeckOf (deck_text names R H) others more K → 1 ≤ length R
+  some [] of = absurd (no_deck names others H more K line valid small named of)
+  some (grammar ∷ R) of = omega arith
+
+  -- it is read as it was under the names
+  back : (ts : List Token) × AreTokensOf text ts × ReadsBack names text ts Q H []
+  back = deck_read_back names line Q (some Q printed) writable H valid small named
+
+  tokens_are : printed.is_written.tokens ≡ back.0
+  tokens_are = one_list text printed.is_written.tokens back.0 printed.is_written.has_tokens.are_tokens back.1
+
+  -- so each of its own names is one of the names
+  among : (name : List ℕ) → Contains others name → Contains names name
+  among name there =
+      let deck : WrittenDeck = back.2.deck in
+      let labels : List Label = labels_in_grammars (map meaning_of deck.systems) ++ labels_in_trees (trees_in deck.chains) in
+      let grown : NamesGrow text back.0 [] others = subst (λ us. NamesGrow text us [] others) tokens_are printed.is_written.names_are in
+      ⊎_elim (λ none. absurd (let low : none.0 < 0 = none.1 in omega (arith, low))) (texts_named (deck_passes back.2.reads) name)
+      (new_names_are_texts text back.0 (map (name_of names) labels) [] others (deck_texts labels refl back.2.reads) grown name there)
+
+  module _ (g : ℕ → ℕ) (carries : Carries g others names) where
+    -- and what was read is what was printed, with other numbers for the labels
+    same_deck : back.2.deck ≡ renamed_deck g printed.written
+    same_deck =
+        one_deck names text distinct back.2.reads
+        (deck_under g others names carries text (subst (λ us. ReadsDeck others text us printed.written []) tokens_are printed.is_written.reads))
+
+    grammars_are : Q ≡ map (renamed_grammar g) more
+    grammars_are =
+        sym back.2.grammars_are ∙ ap (λ (d : WrittenDeck). map meaning_of d.systems) same_deck ∙ meanings_renamed g printed.written.systems
+        ∙ ap (map (renamed_grammar g)) (sym printed.grammars_are)
+
+    graph_is : H ≡ renamed_graph g K
+    graph_is =
+        sym back.2.graph_is ∙ ap (λ (d : WrittenDeck). graph_of d.chains) same_deck ∙ chains_renamed g printed.written.chains ∙ ap (renamed_graph g) (sym printed.graph_is)
+
+    -- the cascade of what was read does what the cascade of what was printed does, and writes the same
+    outcome : (f : ℕ → ℕ) → IsRenaming f g → (second : List ℕ) (ending : Ending) → IsOutcome limit others K more second ending → IsOutcome limit names H Q second ending
+    outcome f is second ending o =
+        let can = writable_deck printed in
+        let accepted : AreAccepted more = deck_accepted printed in
+        let lefts : List Left = map (renamed_left g) o.lefts in
+        let rules = rules_of_renamed g more ∙ ap (map (λ (grammar : Grammar). grammar.rules)) (sym grammars_are) in
+        let cascade = renamed.cascade_renamed g f (record { back = is.forth; forth = is.back }) limit (all_accepted more accepted) o.cascade in
+        let each = lefts_named (length others) limit K more o.lefts ending accepted (λ grammar i rule j. ((can.1 grammar i).rules rule j).right.named) can.4 o.cascade in
+        record {
+          lefts = lefts;
+          cascade =
+              subst (λ (G : QGraph). Cascade limit G (map (λ (grammar : Grammar). grammar.rules) Q) lefts ending) (sym graph_is)
+              (subst (λ (Rs : List (List Rule)). Cascade limit (renamed_graph g K) Rs lefts ending) rules cascade);
+          text_is =
+              o.text_is ∙ sym (blocks_under g others names carries limit more o.lefts (λ grammar i. (can.1 grammar i).name) each)
+              ∙ ap (λ (gs : List Grammar). blocks limit names gs lefts) (sym grammars_are);
+        }
+
+-- the cascade of both parts is that of the first, and behind it that of what was printed
+pub in_two_pieces : (text : List ℕ) (names others : List (List ℕ)) (P Q more : List Grammar) (G H K : QGraph) (limit : ℕ) (first second : List ℕ) (ending : Ending)
+    → limit ≤ 100000 → IsDeckOf text names (P ++ Q) G → Leaves limit names G P first H → IsDeckOf (deck_text names Q H) others more K
+    → IsOutcome limit others K more second ending → IsOutcome limit names G (P ++ Q) (first ++ second) ending
+in_two_pieces text names others P Q more G H K limit first second ending low deck leaves printed o =
+    let known = names_of_deck deck in
+    let can = writable_deck deck in
+    let accepted : AreAccepted P = λ grammar i. deck_accepted deck grammar (in_append_left P Q grammar i) in
+    let rights = λ (grammar : Grammar) (i : grammar ∈ P) (rule : Rule) (j : rule ∈ grammar.rules). ((can.1 grammar (in_append_left P Q grammar i)).rules rule j).right.named in
+    let writable = λ (grammar : Grammar) (i : grammar ∈ Q). can.1 grammar (in_append_right P Q grammar i) in
+    let valid : IsValid H = left_valid limit names G H P first accepted leaves can.2 in
+    let named : AreArcsNamed (length names) H.arcs = left_named limit names G H P first accepted leaves (length names) rights can.4 in
+    let grown = left_small limit names G H P first accepted leaves low can.2 in
+    let small : H.nodes ≤ 999999999 = omega (arith, grown, systems_few deck, length-append P Q, arcs_few deck, nodes_few G can.2) in
+    let (f, g, is, carries) = renaming others names (names_of_deck printed).1 (among limit names others Q more H K known.0 known.1 writable valid small named printed) in
+    outcome_together limit names G H P Q first second ending leaves
+    (outcome limit names others Q more H K known.0 known.1 writable valid small named printed g carries f is second ending o)
