@@ -8,12 +8,10 @@ It runs the proved tests that do this, which have to be built (`rt test` in thei
 least user and system time of RUNS (5) runs, with that of a test that matches next to nothing taken off, and that for each match,
 as a ratio to the first.
 """
-import os
-import subprocess
 import sys
 
-TOP = os.path.dirname(os.path.dirname(os.path.abspath(__file__)))
-TESTS = os.path.join(TOP, "crates", "qs_match", "out", "qs_match_tests")
+from proved_test import build, least
+
 NOTHING = "tests::lists_of_different_length_have_no_match"
 CASES = [
     ("A(U*,V*)     300 subtrees", "tests::two_forest_variables_share_three_hundred_subtrees", 301),
@@ -21,26 +19,14 @@ CASES = [
 ]
 
 
-def seconds(name):
-    child = os.fork()
-    if child == 0:
-        os.dup2(os.open(os.devnull, os.O_WRONLY), 1)
-        os.execv(TESTS, [TESTS, name])
-    _, status, usage = os.wait4(child, 0)
-    if status != 0:
-        sys.exit("the test ended with status %d" % os.waitstatus_to_exitcode(status))
-    return usage.ru_utime + usage.ru_stime
-
-
 def main():
     runs = int(sys.argv[1]) if len(sys.argv) > 1 else 5
-    if not os.path.exists(TESTS):
-        subprocess.run(["rt", "test"], cwd=os.path.join(TOP, "crates", "qs_match"), check=True)
-    nothing = min(seconds(NOTHING) for _ in range(runs))
+    tests = build("qs_match")
+    nothing = least(tests, NOTHING, runs)
     first = None
     print("pattern and node            matches  milliseconds  each, as a ratio")
     for label, name, matches in CASES:
-        taken = max(min(seconds(name) for _ in range(runs)) - nothing, 0.0001)
+        taken = max(least(tests, name, runs) - nothing, 0.0001)
         each = taken / matches
         first = first or each
         print("%-27s %7d  %12.1f  %16.2f" % (label, matches, taken * 1000, each / first))
