@@ -2,7 +2,7 @@
 use Rattle.std.proofs.Common.{◌≡◌, List, [], ◌∷◌, sym, subst, inl, inr, ◌⊎◌}
 use Rattle.std.specs.declared.cmp.Ordering.TheVariants.{Equal}
 use Rattle.qs_tree.specs.Lists.{◌∈◌}
-use Rattle.qs_pattern.specs.Rules.{Rule, AllInClass}
+use Rattle.qs_pattern.specs.Rules.{Rule, AreLeftSidesInClass}
 use Rattle.qs_graph.specs.Graphs.{Arc, QGraph}
 use Rattle.qs_firing.specs.Firings.{Firing, Fires, order}
 use Rattle.qs_canon.specs.Rounds.{Round, HasRounds}
@@ -57,7 +57,7 @@ found R arcs done = chosen (decide_new R arcs done) (all_firings 0 R arcs)
 abbrev pub the_round : List Rule → QGraph → List Firing → List Firing
 the_round R G done = sorted (found R G.arcs done)
 
-module _ (R : List Rule) (ok : AllInClass R) (G : QGraph) (done : List Firing) where
+module _ (R : List Rule) (ok : AreLeftSidesInClass R) (G : QGraph) (done : List Firing) where
   is_new : (f : Firing) → f ∈ found R G.arcs done → IsNew R G.arcs done f
   is_new f i = from_chosen (decide_new R G.arcs done) (all_firings 0 R G.arcs) f i
 
@@ -76,5 +76,5 @@ module _ (R : List Rule) (ok : AllInClass R) (G : QGraph) (done : List Firing) w
       split f r (yes i) = inl i
       split f r (no n) = inr (in_sorted (found R G.arcs done) one f (in_chosen (decide_new R G.arcs done) (all_firings 0 R G.arcs) f (is_listed R ok G.arcs f r) (r, n)))
 
-pub has_rounds : (R : List Rule) → AllInClass R → HasRounds R
+pub has_rounds : (R : List Rule) → AreLeftSidesInClass R → HasRounds R
 has_rounds R ok G done = (the_round R G done, the_round-is R ok G done)

@@ -3,7 +3,7 @@
 ghost use Rattle.std.specs.Prelude.{◌≡◌, ◌⊎◌, ◌↔◌, ◌≤◌, ◌+◌, ◌*◌, ℕ, List, length};
 ghost use Rattle.qs_tree.specs.Lists.{◌∈◌};
 ghost use Rattle.qs_tree.specs.Text.{IsNamed};
-ghost use Rattle.qs_pattern.specs.Rules.{Rule, IsAccepted, AllInClass};
+ghost use Rattle.qs_pattern.specs.Rules.{Rule, IsAccepted, AreLeftSidesInClass};
 ghost use Rattle.qs_pattern.specs.Named.{ArePatternsNamed};
 ghost use Rattle.qs_graph.specs.Graphs.{Arc, QGraph, IsPath, IsValid, IsEntry, IsExit};
 ghost use Rattle.qs_firing.specs.Firings.{Firing};
@@ -17,14 +17,14 @@ pub fn one_round()
 /// With rules whose left sides have every variable at a place of its class, as accepted rules have, each graph has a
 /// round, whatever is done.
 pub fn rounds_exist()
-    ensures { (R : List Rule) → AllInClass R → HasRounds R }
+    ensures { (R : List Rule) → AreLeftSidesInClass R → HasRounds R }
 {}
 
 /// There is one closure. Rules with every variable at a place of its class close with at most L firings or need more, and
 /// no rules do both.
 pub fn one_closure()
     ensures one { (R : List Rule) (G : QGraph) (C D : Stage) → Closes R G C → Closes R G D → C ≡ D }
-    ensures some { (R : List Rule) → AllInClass R → (G : QGraph) (L : ℕ) → ClosesWithin R G L ⊎ Needs R G L }
+    ensures some { (R : List Rule) → AreLeftSidesInClass R → (G : QGraph) (L : ℕ) → ClosesWithin R G L ⊎ Needs R G L }
     ensures not_both { (R : List Rule) (G : QGraph) (L : ℕ) → ClosesWithin R G L → Needs R G L → ⊥ }
 {}
 

@@ -91,5 +91,5 @@ pub fn check(alloc: Global, raw: RawRule) -> Result<Rule, CheckEnd>
         cond,
         ..
     } = raw;
-    Ok(Rule::new(left, right, cond))
+    Ok(Rule::new(alloc, left, right, cond))
 }

@@ -2,7 +2,7 @@
 use Rattle.std.proofs.Common.{◌≡◌, ℕ, zero, suc, List, [], ◌∷◌, length, refl, arith}
 use Rattle.qs_tree.specs.declared.cell.Label.{Label}
 use Rattle.qs_pattern.specs.Patterns.{AreInClass}
-use Rattle.qs_pattern.specs.Rules.{Rule, AllInClass}
+use Rattle.qs_pattern.specs.Rules.{Rule, AreLeftSidesInClass}
 use Rattle.qs_graph.specs.Graphs.{QGraph}
 use Rattle.qs_canon.specs.Rounds.{Stage, start, firings, after, Rounds, Closes, Needs}
 use Rattle.qs_clean.specs.Examples.{A, B, C, X, Y, side, rule, one_arc, one_rule, one_rule_closure, equal_rules, equal_rules_closure, endless_rule, overlapping_rules, three_arcs, overlapping_closure}
@@ -17,16 +17,16 @@ side-class (l ∷ ls) = (tt, tt, side-class ls)
 abbrev LeftInClass : Rule → Type 0
 LeftInClass r = AreInClass r.left
 
-one_rule-class : AllInClass one_rule
+one_rule-class : AreLeftSidesInClass one_rule
 one_rule-class = each_of LeftInClass (rule (A ∷ []) (B ∷ [])) [] (side-class (A ∷ [])) (λ y i. absurd i)
 
-equal_rules-class : AllInClass equal_rules
+equal_rules-class : AreLeftSidesInClass equal_rules
 equal_rules-class = each_of LeftInClass (rule (A ∷ []) (B ∷ [])) one_rule (side-class (A ∷ [])) one_rule-class
 
-endless_rule-class : AllInClass endless_rule
+endless_rule-class : AreLeftSidesInClass endless_rule
 endless_rule-class = each_of LeftInClass (rule (A ∷ []) (A ∷ [])) [] (side-class (A ∷ [])) (λ y i. absurd i)
 
-overlapping_rules-class : AllInClass overlapping_rules
+overlapping_rules-class : AreLeftSidesInClass overlapping_rules
 overlapping_rules-class =
     each_of LeftInClass (rule (A ∷ B ∷ []) (X ∷ [])) (rule (B ∷ C ∷ []) (Y ∷ []) ∷ []) (side-class (A ∷ B ∷ []))
     (each_of LeftInClass (rule (B ∷ C ∷ []) (Y ∷ [])) [] (side-class (B ∷ C ∷ [])) (λ y i. absurd i))
@@ -35,7 +35,7 @@ overlapping_rules-class =
 abbrev pub next : List Rule → ℕ → Stage → Stage
 next R n S = after R n S (the_round R S.graph (firings S))
 
-pub one_more : (R : List Rule) → AllInClass R → (G : QGraph) (n : ℕ) (S : Stage) → Rounds R G n S → Rounds R G (suc n) (next R (suc n) S)
+pub one_more : (R : List Rule) → AreLeftSidesInClass R → (G : QGraph) (n : ℕ) (S : Stage) → Rounds R G n S → Rounds R G (suc n) (next R (suc n) S)
 one_more R ok G n S s = (S, the_round R S.graph (firings S), s, the_round-is R ok S.graph (firings S), refl)
 
 pub one_rule_closes : Closes one_rule one_arc one_rule_closure

@@ -32,7 +32,7 @@ one_answer S (Some G) None (g, some) (E, e, none) = absurd (omega (arith, ap len
 one_answer S (Some G) (Some H) (g, some) (h, more) = ap Some (one_clean S G H g h)
 
 -- the closure and what cleaning leaves of it
-same_both : {R : List Rule} {G : QGraph} {C D : Stage} {H I : QGraph} → Closes R G C → Closes R G D → Cleans C H → Cleans D I → (C ≡ D) × (H ≡ I)
+pub same_both : {R : List Rule} {G : QGraph} {C D : Stage} {H I : QGraph} → Closes R G C → Closes R G D → Cleans C H → Cleans D I → (C ≡ D) × (H ≡ I)
 same_both {C = C} {D} {H} {I} c d k l =
     let p : C ≡ D = one_closure _ _ C D c d in
     (p, one_clean D H I (subst (λ (S : Stage). Cleans S H) p k) l)

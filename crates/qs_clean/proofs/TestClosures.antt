@@ -4,7 +4,7 @@ use Rattle.qs_tree.specs.Lists.{◌∈◌}
 use Rattle.qs_tree.specs.declared.cell.Label.{Label}
 use Rattle.qs_tree.specs.Trees.{Tree}
 use Rattle.qs_pattern.specs.Patterns.{AreInClass, NoForestAtTop}
-use Rattle.qs_pattern.specs.Rules.{Rule, IsAccepted, AllInClass}
+use Rattle.qs_pattern.specs.Rules.{Rule, IsAccepted, AreLeftSidesInClass}
 use Rattle.qs_graph.specs.Chains.{line_graph}
 use Rattle.qs_graph.proofs.Lines.{line_kept}
 use Rattle.qs_canon.specs.Rounds.{Stage, Closes, start, firings}
@@ -66,7 +66,7 @@ gap_closure = record {
   done = done 0 (0 ∷ 1 ∷ []) 3 1 ∷ [];
 }
 
-gap_rules-class : AllInClass gap_rules
+gap_rules-class : AreLeftSidesInClass gap_rules
 gap_rules-class = each_of (λ (r : Rule). AreInClass r.left) (rule (A ∷ B ∷ []) (X ∷ [])) [] (side-class (A ∷ B ∷ [])) (λ r i. absurd i)
 
 gap_rules_close : Closes gap_rules (line_graph 1 (leaf A ∷ leaf B ∷ leaf C ∷ []) 2) gap_closure

@@ -40,7 +40,7 @@ pub fn clean(alloc: Global, closure: &Closure) -> Result<Option<Graph>, AllocErr
     }
     let entry = numbers.of[closure.entry as usize];
     let exit = numbers.of[closure.exit as usize];
-    Ok(Some(Graph::of_valid(numbers.count, entry, exit, edges)))
+    Ok(Some(Graph::of_valid(alloc, numbers.count, entry, exit, edges)))
 }
 
 // The marks of a closure.

@@ -1,6 +1,6 @@
 -- Within one graph, firings with equal keys are equal.
 use Rattle.std.proofs.Common.{◌≡◌, List, sym, ◌∙◌, ap, subst, Some, slice_get}
-use Rattle.qs_pattern.specs.Rules.{Rule, AllInClass}
+use Rattle.qs_pattern.specs.Rules.{Rule, AreLeftSidesInClass}
 use Rattle.qs_pattern.specs.Substitutions.{forest_lengths}
 use Rattle.qs_pattern.specs.Instances.{IsMatch}
 use Rattle.qs_graph.specs.Graphs.{Arc, trees_on}
@@ -8,7 +8,7 @@ use Rattle.qs_firing.specs.Firings.{Firing, Fires, key}
 use Rattle.qs_tree.proofs.Members.{in_at}
 use Rattle.qs_pattern.proofs.MatchLemmas.{lengths_tell}
 
-pub one_firing : (R : List Rule) → AllInClass R → (arcs : List Arc) (f g : Firing) → Fires R arcs f → Fires R arcs g → key f ≡ key g → f ≡ g
+pub one_firing : (R : List Rule) → AreLeftSidesInClass R → (arcs : List Arc) (f g : Firing) → Fires R arcs f → Fires R arcs g → key f ≡ key g → f ≡ g
 one_firing R ok arcs f g r q e =
     let n : f.rule ≡ g.rule = cc in
     let p : f.path ≡ g.path = cc in

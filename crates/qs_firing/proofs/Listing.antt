@@ -5,7 +5,7 @@ use Rattle.std.proofs.lemmas.Option.{slice_get_within}
 use Rattle.qs_tree.specs.Lists.{◌∈◌}
 use Rattle.qs_pattern.specs.Patterns.{count}
 use Rattle.qs_pattern.specs.Substitutions.{Substitution}
-use Rattle.qs_pattern.specs.Rules.{Rule, AllInClass}
+use Rattle.qs_pattern.specs.Rules.{Rule, AreLeftSidesInClass}
 use Rattle.qs_graph.specs.Graphs.{Arc, Leads, trees_on}
 use Rattle.qs_firing.specs.Firings.{Firing, Fires}
 use Rattle.qs_tree.proofs.Members.{in_append_left, in_append_right, in_map, in_flat_map, in_at, numbers_from, in_numbers, sequences, in_sequences}
@@ -51,7 +51,7 @@ in_all_firings i (r ∷ rs) arcs (suc n) path s rule is long each c =
     let f : Firing = record { rule = suc i + n; path = path; values = s } in
     rw there (in_append_right (firings_of i r arcs) (all_firings (suc i) rs arcs) f (in_all_firings (suc i) rs arcs n path s rule is long each c))
 
-pub is_listed : (R : List Rule) → AllInClass R → (arcs : List Arc) (f : Firing) → Fires R arcs f → f ∈ all_firings 0 R arcs
+pub is_listed : (R : List Rule) → AreLeftSidesInClass R → (arcs : List Arc) (f : Firing) → Fires R arcs f → f ∈ all_firings 0 R arcs
 is_listed R ok arcs f r =
     let c = is_candidate r.rule.left (ok r.rule (in_at R f.rule r.rule r.is_rule)) (trees_on arcs f.path) f.values r.matches in
     let i : record { rule = 0 + f.rule; path = f.path; values = f.values } ∈ all_firings 0 R arcs =

@@ -64,7 +64,7 @@ fn noun_rule(alloc: Global) -> Result<Rule, AllocError> {
     let left = two(alloc, word(alloc, LE), word(alloc, CHAT))?;
     let kids = two(alloc, word(alloc, LE), word(alloc, CHAT))?;
     let right = one(alloc, node(GN, kids))?;
-    Ok(Rule::new(left, right, None))
+    Ok(Rule::new(alloc, left, right, None))
 }
 
 // GN(U*).
@@ -104,7 +104,7 @@ fn sentence_rule(alloc: Global, list: Var) -> Result<Rule, AllocError>
 {
     let left = sentence_left(alloc, list)?;
     let right = sentence_right(alloc, list)?;
-    Ok(Rule::new(left, right, None))
+    Ok(Rule::new(alloc, left, right, None))
 }
 
 // The tree of one node with this label.

@@ -14,6 +14,7 @@ use std::marker::Model;
 /// than 4,294,967,295, no cycle, one node without an arc into it, the entry, and one without an arc out of it, the exit.
 #[derive(Drop)]
 pub struct Graph {
+    alloc: Global,
     nodes: u32,
     entry: u32,
     exit: u32,
@@ -69,11 +70,12 @@ impl Graph {
 
     /// The graph with the nodes 1 to `nodes` and these arcs, which have to make a valid graph of fewer than 4,294,967,295
     /// arcs with this entry and this exit. Takes no memory.
-    pub fn of_valid(nodes: u32, entry: u32, exit: u32, edges: Vec<Edge>) -> Graph
+    pub fn of_valid(alloc: Global, nodes: u32, entry: u32, exit: u32, edges: Vec<Edge>) -> Graph
         requires { IsKept (record { nodes = nodes; arcs = edges.items }) entry exit }
         ensures { result ≡ record { nodes = nodes; arcs = edges.items } }
     {
         Graph {
+            alloc,
             nodes,
             entry,
             exit,
@@ -106,6 +108,7 @@ impl Graph {
             next += 1;
         }
         Ok(Graph {
+            alloc,
             nodes: len as u32 + 1,
             entry: from,
             exit: to,
@@ -114,11 +117,12 @@ impl Graph {
     }
 
     /// An equal graph.
-    pub fn copy(&self, alloc: Global) -> Result<Graph, AllocError>
+    pub fn copy(&self) -> Result<Graph, AllocError>
         ensures { IfOk result (λ g. g ≡ self.now) }
     {
-        let edges = copies_of(alloc, &self.edges)?;
+        let edges = copies_of(self.alloc, &self.edges)?;
         Ok(Graph {
+            alloc: self.alloc,
             nodes: self.nodes,
             entry: self.entry,
             exit: self.exit,

@@ -58,6 +58,6 @@ impl Graph {
         let Some(exit) = only_exit(alloc, nodes, &edges)? else {
             return Err(GraphEnd::Exits);
         };
-        Ok(Graph::of_valid(nodes, entry, exit, edges))
+        Ok(Graph::of_valid(alloc, nodes, entry, exit, edges))
     }
 }

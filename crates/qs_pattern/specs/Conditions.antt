@@ -101,11 +101,12 @@ abbrev mutual
   AreConditionsInClass no_condition = Unit {0}
   AreConditionsInClass (condition_first c cs) = IsConditionInClass c × AreConditionsInClass cs
 
--- Where conditions are joined, at least two are: `-ET-` and `-OU-` stand between conditions.
+-- How many conditions the list has.
 abbrev pub count_conditions : Conditions → ℕ
 count_conditions no_condition = 0
 count_conditions (condition_first c cs) = count_conditions cs + 1
 
+-- Where conditions are joined, at least two are: `-ET-` and `-OU-` stand between conditions.
 abbrev mutual
   pub HasEnoughMembers : Condition → Type 0
   HasEnoughMembers (within a b) = Unit {0}

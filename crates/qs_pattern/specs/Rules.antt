@@ -6,7 +6,7 @@ use Rattle.qs_pattern.specs.Variables.{firsts}
 use Rattle.qs_pattern.specs.Patterns.{Patterns, count, cells, variables_in, AreInClass, NoForestAtTop}
 use Rattle.qs_pattern.specs.Conditions.{Condition, condition_cells, condition_variables, IsConditionInClass, HasEnoughMembers}
 
--- A rule replaces a path of trees that its left side stands for by a path of the trees that its right side stands for,
+-- A rule adds, beside a path of trees that its left side stands for, a path of the trees that its right side stands for,
 -- where its condition holds.
 pub record Rule : Type 0 where
   pub left : Patterns
@@ -30,10 +30,11 @@ abbrev pub HasEnoughMembersIfGiven : Option Condition → Type 0
 HasEnoughMembersIfGiven None = Unit {0}
 HasEnoughMembersIfGiven (Some c) = HasEnoughMembers c
 
--- The variables of the whole rule in text order, with repetitions.
+-- The variables of the right side and of the condition in text order, with repetitions.
 abbrev pub variables_behind : Rule → List Var
 variables_behind rule = variables_in rule.right ++ variables_if_given rule.condition
 
+-- The variables of the whole rule in text order, with repetitions.
 abbrev pub rule_variables : Rule → List Var
 rule_variables rule = variables_in rule.left ++ variables_behind rule
 
@@ -61,5 +62,5 @@ pub record IsAccepted (rule : Rule) : Type 0 where
   pub bound : (v : Var) → v ∈ variables_behind rule → v ∈ variables_in rule.left
 
 -- In the left side of each of these rules every variable stands at a place of its class, as it does in accepted rules.
-abbrev pub AllInClass : List Rule → Type 0
-AllInClass rules = (rule : Rule) → rule ∈ rules → AreInClass rule.left
+abbrev pub AreLeftSidesInClass : List Rule → Type 0
+AreLeftSidesInClass rules = (rule : Rule) → rule ∈ rules → AreInClass rule.left

@@ -7,12 +7,12 @@ ghost use Rattle.qs_tree.specs.Text.{IsNamed};
 ghost use Rattle.qs_pattern.specs.Substitutions.{Substitution};
 ghost use Rattle.qs_pattern.specs.Instances.{IsCovered, IsMatch, inst};
 ghost use Rattle.qs_pattern.specs.Conditions.{Condition, IsConditionCovered};
-ghost use Rattle.qs_pattern.specs.Rules.{Rule, IsAccepted, AllInClass};
+ghost use Rattle.qs_pattern.specs.Rules.{Rule, IsAccepted, AreLeftSidesInClass};
 ghost use Rattle.qs_pattern.specs.Named.{ArePatternsNamed};
 
 /// Accepted rules have their variables at places of their classes.
 pub fn accepted_rules_are_in_class()
-    ensures { (rules : List Rule) → ((rule : Rule) → rule ∈ rules → IsAccepted rule) → AllInClass rules }
+    ensures { (rules : List Rule) → ((rule : Rule) → rule ∈ rules → IsAccepted rule) → AreLeftSidesInClass rules }
 {}
 
 /// A match of an accepted rule's left side gives each variable of its right side and of its condition a value of its

@@ -12,12 +12,13 @@ use crate::pattern::Pattern;
 use std::alloc::{AllocError, Global};
 use std::marker::Model;
 
-/// An accepted rule: the patterns of its left side, those that take their place, and maybe a condition. Each side has 1
-/// to 16 patterns and no forest variable at its top, the rule has at most 256 labels and variables and at most 32
-/// different variables, each variable of the right side and of the condition occurs in the left side, and the condition
-/// joins at least two wherever it joins.
+/// An accepted rule: the patterns of its left side, those of its right side, whose trees it adds on a path beside the one
+/// that its left side stands for, and maybe a condition. Each side has 1 to 16 patterns and no forest variable at its top,
+/// the rule has at most 256 labels and variables and at most 32 different variables, each variable of the right side and of
+/// the condition occurs in the left side, and the condition joins at least two wherever it joins.
 #[derive(Drop)]
 pub struct Rule {
+    alloc: Global,
     left: Vec<Pattern>,
     right: Vec<Pattern>,
     condition: Option<Cond>,
@@ -41,11 +42,17 @@ impl Model for Rule {
 
 impl Rule {
     /// The rule of these two sides and this condition, which have to make an accepted rule. Takes no memory.
-    pub fn new(left: Vec<Pattern>, right: Vec<Pattern>, condition: Option<Cond>) -> Rule
+    pub fn new(
+        alloc: Global,
+        left: Vec<Pattern>,
+        right: Vec<Pattern>,
+        condition: Option<Cond>,
+    ) -> Rule
         requires { IsAccepted (record { left = patterns left.items; right = patterns right.items; condition = option_map condition_of condition }) }
         ensures { result ≡ record { left = patterns left.items; right = patterns right.items; condition = option_map condition_of condition } }
     {
         Rule {
+            alloc,
             left,
             right,
             condition,
@@ -77,13 +84,15 @@ impl Rule {
     }
 
     /// An equal rule.
-    pub fn copy(&self, alloc: Global) -> Result<Rule, AllocError>
+    pub fn copy(&self) -> Result<Rule, AllocError>
         ensures { IfOk result (λ r. r ≡ self.now) }
     {
+        let alloc = self.alloc;
         let left = copies_of(alloc, &self.left)?;
         let right = copies_of(alloc, &self.right)?;
         let condition = copy_if_given(alloc, &self.condition)?;
         Ok(Rule {
+            alloc,
             left,
             right,
             condition,

@@ -92,9 +92,6 @@ forest_in-cells_of g = ap forest_in (sym (append-nil (cells_of g))) ∙ forest_i
 pub tree_of-cells_of_tree : (t : Tree) → tree_of (cells_of_tree t) ≡ t
 tree_of-cells_of_tree t = ap (λ (g : Forest). let r : Tree = record { root = t.root; subtrees = g } in r) (forest_in-cells_of t.subtrees)
 
-abbrev pub forest_code : Coded Forest
-forest_code = code_by (List Cell) (coded_list cell.the_row.coded) cells_of forest_in forest_in-cells_of
-
 abbrev pub tree_code : Coded Tree
 tree_code =
     code_by (List Cell) (coded_list cell.the_row.coded) cells_of_tree tree_of tree_of-cells_of_tree
