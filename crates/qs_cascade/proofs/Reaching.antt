@@ -6,7 +6,7 @@ use Rattle.std.proofs.lemmas.Option.{slice_get_within}
 use Rattle.qs_tree.specs.Lists.{◌∈◌}
 use Rattle.qs_tree.specs.Trees.{Tree}
 use Rattle.qs_pattern.specs.Instances.{IsMatch}
-use Rattle.qs_pattern.specs.Rules.{Rule, AllInClass}
+use Rattle.qs_pattern.specs.Rules.{Rule, AreLeftSidesInClass}
 use Rattle.qs_match.proofs.Listed.{in_left, in_right, in_either}
 use Rattle.qs_graph.specs.Graphs.{Arc, QGraph, Leads, arcs_at, trees_on}
 use Rattle.qs_graph.specs.Chains.{chain}
@@ -177,7 +177,7 @@ module _ {R : List Rule} {G : QGraph} {n old : ℕ} {S : Stage} where
   }
 
   -- more new firings were found than the limit leaves room for
-  pub needs_more : {more : List Firing} {room L : ℕ} → AllInClass R → Reaches R G n old S → n ≤ length S.done → length S.done + room ≡ L → Finds (NewFiring R S.graph.arcs old) [] more room false → Needs R G L
+  pub needs_more : {more : List Firing} {room L : ℕ} → AreLeftSidesInClass R → Reaches R G n old S → n ≤ length S.done → length S.done + room ≡ L → Finds (NewFiring R S.graph.arcs old) [] more room false → Needs R G L
   needs_more {more} {room} {L} ok r h e x = by (has_rounds R ok S.graph (firings S))
     where
       by : (F : List Firing) × Round R S.graph (firings S) F → Needs R G L

@@ -1,5 +1,5 @@
 -- What the search for the firings of a round has found: the middle of its proof.
-use Rattle.std.specs.Prelude.{ℕ, zero, suc, ◌+◌, ◌-◌, ◌≤◌, ◌<◌, ◌≡◌, ◌⊎◌, Bool, true, false, List, [], ◌∷◌, ◌++◌, length, map, slice_get, Option, Some, None}
+use Rattle.std.specs.Prelude.{ℕ, zero, suc, ◌+◌, ◌-◌, ◌≤◌, ◌<◌, ◌≡◌, ◌⊎◌, Bool, true, false, List, [], ◌∷◌, ◌++◌, length, map, Option, Some, None}
 use Rattle.std.proofs.Common.{Global}
 use Rattle.std.specs.declared.vec.Vec.{Vec}
 use Rattle.qs_tree.specs.Lists.{◌∈◌, Ascends}
@@ -63,14 +63,6 @@ pub record GoesOn (number : ℕ) (rule : Rule) (arcs : List Arc) (old : ℕ) (fr
   pub among : next ∈ nexts
   pub rest : List ℕ
   pub path_is : f.path ≡ front ++ (next ∷ rest)
-
--- f is a new firing of one of these rules, which are numbered from i on.
-pub record IsNewOf (i : ℕ) (rules : List Rule) (arcs : List Arc) (old : ℕ) (f : Firing) : Type 0 where
-  pub rule : Rule
-  pub number : ℕ
-  pub is_rule : slice_get rules number ≡ Some rule
-  pub by : FiresBy f.rule rule arcs f
-  pub new : IsNewPath old f.path
 
 -- To the old list of firings were appended, ascending, firings of which P holds: all of them where the search is
 -- complete, and otherwise more than there is room for.

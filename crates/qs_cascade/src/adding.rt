@@ -53,8 +53,8 @@ pub fn add(
     firing: &Firing,
 ) -> Result<(), AllocError>
     requires fires { Fires rules.now arcs.old.arcs firing.now }
-    requires arcs { length arcs.old.arcs + 16 < 2 ^ 32 - 1 }
-    requires nodes { arcs.old.nodes + 16 < 2 ^ 32 - 1 }
+    requires arcs { length arcs.old.arcs + 16 ≤ 2 ^ 32 - 1 }
+    requires nodes { arcs.old.nodes + 16 ≤ 2 ^ 32 - 1 }
     ensures ok { OnOk result (arcs.new ≡ adds rules.now arcs.old firing.now) }
     ensures arcs { OnOk result (length arcs.new.arcs ≤ length arcs.old.arcs + 16) }
     ensures nodes { OnOk result (arcs.new.nodes ≤ arcs.old.nodes + 16) }
@@ -76,8 +76,8 @@ pub fn do_round(
     round: u32,
 ) -> Result<(), AllocError>
     requires fire { (f : FiringOfRule) → f ∈ found.items → Fires rules.now arcs.old.arcs f }
-    requires arcs { length arcs.old.arcs + 16 * length found.items < 2 ^ 32 - 1 }
-    requires nodes { arcs.old.nodes + 16 * length found.items < 2 ^ 32 - 1 }
+    requires arcs { length arcs.old.arcs + 16 * length found.items ≤ 2 ^ 32 - 1 }
+    requires nodes { arcs.old.nodes + 16 * length found.items ≤ 2 ^ 32 - 1 }
     ensures stage { OnOk result (record { graph = arcs.new; done = done.new.items } ≡ after rules.now round (record { graph = arcs.old; done = done.old.items }) found.items) }
     ensures arcs { OnOk result (length arcs.new.arcs ≤ length arcs.old.arcs + 16 * length found.items) }
     ensures nodes { OnOk result (arcs.new.nodes ≤ arcs.old.nodes + 16 * length found.items) }

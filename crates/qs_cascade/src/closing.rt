@@ -33,8 +33,8 @@ pub fn closure(
 ) -> Result<Option<Closure>, AllocError>
     requires limit { 1 ≤ limit }
     requires rules { length rules.now < 4294967295 }
-    requires arcs { length start.now.arcs + 16 * limit < 2 ^ 32 - 1 }
-    requires nodes { start.now.nodes + 16 * limit < 2 ^ 32 - 1 }
+    requires arcs { length start.now.arcs + 16 * limit ≤ 2 ^ 32 - 1 }
+    requires nodes { start.now.nodes + 16 * limit ≤ 2 ^ 32 - 1 }
     ensures { IfOk result (λ c. ClosesOrNeeds rules.now start.now limit c) }
 {
     know_accepted(rules);

@@ -30,8 +30,8 @@ pub fn stage_alone(
 ) -> Result<StageEnd, AllocError>
     requires limit { 1 ≤ limit }
     requires rules { length rules.now < 4294967295 }
-    requires arcs { length start.now.arcs + 16 * limit < 2 ^ 32 - 1 }
-    requires nodes { start.now.nodes + 16 * limit < 2 ^ 32 - 1 }
+    requires arcs { length start.now.arcs + 16 * limit ≤ 2 ^ 32 - 1 }
+    requires nodes { start.now.nodes + 16 * limit ≤ 2 ^ 32 - 1 }
     ensures end { IfOk result (λ end. IsStageEnd rules.now start.now limit end) }
     ensures grows { IfOk result (λ end. GrowsWithin start.now limit end) }
     ensures labels { IfOk result (λ end. MakesNoLabels rules.now start.now end) }

@@ -52,7 +52,7 @@ fn rule(alloc: Global, var: Var) -> Result<Rule, AllocError>
         a: only_tree(alloc, var)?,
         b: only_label(alloc, A)?,
     };
-    Ok(Rule::new(left, right, Some(condition)))
+    Ok(Rule::new(alloc, left, right, Some(condition)))
 }
 
 // What the rule leaves of one arc with this label: the number of firings, and the label of the first arc.
