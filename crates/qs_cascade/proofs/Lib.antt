@@ -16,3 +16,4 @@ pub mod Taken
 pub mod Leaves
 pub mod Additions
 pub mod Doing
+pub mod OneEnd

@@ -4,6 +4,7 @@
 mod adding;
 mod arcs;
 mod closing;
+pub mod laws;
 mod rounds;
 mod search;
 mod stage;
