@@ -121,7 +121,7 @@ module _ (names : List (List ℕ)) (text : List ℕ) (names_line : AreOnOneLine 
   one_more_grammar : (grammar : Grammar) (grammars : List Grammar) (ts rest : List Token) → Both (AreGrammar grammar) (AreGrammars grammars) ts rest → AreGrammars (grammar ∷ grammars) ts rest
   one_more_grammar grammar grammars ts rest x = (x.1.0 ∷ x.2.0, (λ i. x.1.1 i ∷ x.2.1 i), (x.0, x.1.2, x.2.2))
 
-  grammars_go : (grammars : List Grammar) → ((grammar : Grammar) → grammar ∈ grammars → IsWritableGrammar (length names) grammar) → (left : List ℕ) → Goes text (AreGrammars grammars) (flat_map (grammar_text names) grammars) left
+  pub grammars_go : (grammars : List Grammar) → ((grammar : Grammar) → grammar ∈ grammars → IsWritableGrammar (length names) grammar) → (left : List ℕ) → Goes text (AreGrammars grammars) (flat_map (grammar_text names) grammars) left
   grammars_go [] w left = turned text [] left (λ ts rest e. ([], refl, e)) (nothing text left)
   grammars_go (grammar ∷ grammars) w left =
       let others : List ℕ = flat_map (grammar_text names) grammars in

@@ -10,7 +10,7 @@ use Rattle.qs_tree.specs.declared.cell.Label.{Label}
 use Rattle.qs_tree.specs.Lists.{◌∈◌}
 use Rattle.qs_tree.specs.Names.{AreDistinct}
 use Rattle.qs_tree.specs.Text.{name_of}
-use Rattle.qs_tree.proofs.Members.{in_append_left, in_append_right}
+use Rattle.qs_tree.proofs.Members.{in_append_left}
 use Rattle.qs_pattern.specs.Rules.{Rule}
 use Rattle.qs_ruletext.specs.Names.{NamesGrow}
 use Rattle.qs_ruletext.specs.Written.{AreOnOneLine}
@@ -34,16 +34,16 @@ use Rattle.qs_deck.proofs.DeckLabels.{labels_in_grammars, deck_passes}
 use Rattle.qs_deck.proofs.DecksAccepted.{deck_accepted, deck_texts}
 use Rattle.qsys.specs.Outcomes.{blocks, IsOutcome}
 use Rattle.qsys.specs.Cascading.{AreAccepted}
-use Rattle.qsys.specs.Pieces.{Leaves}
-use Rattle.qsys.proofs.NodesFew.{nodes_few}
+use Rattle.qsys.specs.Pieces.{TwoPieces}
+use Rattle.qsys.proofs.MarksRead.{nodes_fit}
+use Rattle.qsys.proofs.Cutting.{back_writable}
 use Rattle.qsys.proofs.GoingOn.{all_accepted}
-use Rattle.qsys.proofs.Starting.{systems_few, arcs_few}
 use Rattle.qsys.proofs.RenamedGrammars.{Carries, renamed_grammar}
 use Rattle.qsys.proofs.ReadUnderOthers.{chains_renamed}
 use Rattle.qsys.proofs.WrittenUnderOthers.{blocks_under}
 use Rattle.qsys.proofs.DecksUnderOthers.{renamed_deck, meanings_renamed, deck_under}
 use Rattle.qsys.proofs.Renumbering.{renaming}
-use Rattle.qsys.proofs.TwoPieces.{outcome_together, lefts_named, left_valid, left_named, left_small}
+use Rattle.qsys.proofs.TwoPieces.{outcome_together, lefts_named, left_valid, left_named}
 
 -- what is printed without a grammar is no deck
 no_deck : (names others : List (List ℕ)) (H : QGraph) (more : List Grammar) (K : QGraph) → AreOnOneLine names → IsValid H → H.nodes ≤ 999999999 → AreArcsNamed (length names) H.arcs
@@ -125,19 +125,18 @@ module _ (limit : ℕ) (names others : List (List ℕ)) (Q more : List Grammar) 
         }
 
 -- the cascade of both parts is that of the first, and behind it that of what was printed
-pub in_two_pieces : (text : List ℕ) (names others : List (List ℕ)) (P Q more : List Grammar) (G H K : QGraph) (limit : ℕ) (first second : List ℕ) (ending : Ending)
-    → limit ≤ 100000 → IsDeckOf text names (P ++ Q) G → Leaves limit names G P first H → IsDeckOf (deck_text names Q H) others more K
-    → IsOutcome limit others K more second ending → IsOutcome limit names G (P ++ Q) (first ++ second) ending
-in_two_pieces text names others P Q more G H K limit first second ending low deck leaves printed o =
-    let known = names_of_deck deck in
-    let can = writable_deck deck in
-    let accepted : AreAccepted P = λ grammar i. deck_accepted deck grammar (in_append_left P Q grammar i) in
-    let rights = λ (grammar : Grammar) (i : grammar ∈ P) (rule : Rule) (j : rule ∈ grammar.rules). ((can.1 grammar (in_append_left P Q grammar i)).rules rule j).right.named in
-    let writable = λ (grammar : Grammar) (i : grammar ∈ Q). can.1 grammar (in_append_right P Q grammar i) in
-    let valid : IsValid H = left_valid limit names G H P first accepted leaves can.2 in
-    let named : AreArcsNamed (length names) H.arcs = left_named limit names G H P first accepted leaves (length names) rights can.4 in
-    let grown = left_small limit names G H P first accepted leaves low can.2 in
-    let small : H.nodes ≤ 999999999 = omega (arith, grown, systems_few deck, length-append P Q, arcs_few deck, nodes_few G can.2) in
-    let (f, g, is, carries) = renaming others names (names_of_deck printed).1 (among limit names others Q more H K known.0 known.1 writable valid small named printed) in
-    outcome_together limit names G H P Q first second ending leaves
-    (outcome limit names others Q more H K known.0 known.1 writable valid small named printed g carries f is second ending o)
+pub in_two_pieces : (p : TwoPieces) → IsOutcome p.limit p.names p.graph (p.front ++ p.back) (p.first ++ p.second) p.ending
+in_two_pieces p =
+    let can = p.can_be_cut in
+    let n : ℕ = length p.names in
+    let accepted : AreAccepted p.front = λ grammar i. can.accepted grammar (in_append_left p.front p.back grammar i) in
+    let rights = λ (grammar : Grammar) (i : grammar ∈ p.front) (rule : Rule) (j : rule ∈ grammar.rules). ((can.named grammar (in_append_left p.front p.back grammar i)).1 rule j).right in
+    let writable = back_writable can in
+    let valid : IsValid p.left = left_valid p.limit p.names p.graph p.left p.front p.first accepted p.leaves can.valid in
+    let named : AreArcsNamed n p.left.arcs = left_named p.limit p.names p.graph p.left p.front p.first accepted p.leaves n rights can.arcs_named in
+    let w = p.accepted.is_written in
+    let small : p.left.nodes ≤ 999999999 = nodes_fit p.names can.names_on_one_line p.back writable p.left valid named w.tokens w.has_tokens.are_tokens in
+    let contained = among p.limit p.names p.others p.back p.more p.left p.read can.names_on_one_line can.names_differ writable valid small named p.accepted in
+    let (f, g, is, carries) = renaming p.others p.names (names_of_deck p.accepted).1 contained in
+    outcome_together p.limit p.names p.graph p.left p.front p.back p.first p.second p.ending p.leaves
+    (outcome p.limit p.names p.others p.back p.more p.left p.read can.names_on_one_line can.names_differ writable valid small named p.accepted g carries f is p.second p.ending p.goes_on)

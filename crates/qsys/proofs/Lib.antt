@@ -12,4 +12,6 @@ pub mod WrittenUnderOthers
 pub mod DecksUnderOthers
 pub mod Renumbering
 pub mod TwoPieces
+pub mod MarksRead
+pub mod Cutting
 pub mod InTwoPieces

@@ -10,13 +10,11 @@ use Rattle.qs_pattern.specs.Named.{ArePatternsNamed}
 use Rattle.qs_graph.specs.Graphs.{QGraph, IsValid}
 use Rattle.qs_graphtext.specs.Texts.{AreArcsNamed}
 use Rattle.qs_canon.specs.Rounds.{Stage, Closes}
-use Rattle.qs_canon.proofs.Keeping.{keeps_rounds}
-use Rattle.qs_canon.proofs.Growing.{rounds_grow}
 use Rattle.qs_canon.proofs.Naming.{rounds_named}
 use Rattle.qs_clean.specs.Cleaning.{Cleans}
 use Rattle.qs_clean.specs.Cascades.{Cascade, Left, a_graph, no_arc, over, Ending, all_done, no_more, limit, empty, goes_on}
 use Rattle.qs_clean.proofs.CascadeExistence.{reached_valid, AllAccepted}
-use Rattle.qs_clean.proofs.Fewer.{fewer_nodes, old_tree}
+use Rattle.qs_clean.proofs.Fewer.{old_tree}
 use Rattle.qs_deck.specs.Decks.{Grammar}
 use Rattle.qsys.specs.Outcomes.{block, blocks, IsOutcome}
 use Rattle.qsys.specs.Cascading.{AreAccepted}
@@ -76,23 +74,6 @@ kept_valid accepted valid (empty c few k z) last = absurd cc
 kept_valid accepted valid (goes_on {G = G} {H = K} {R = R} {C = C} c few k p o) last =
     kept_valid (λ Q i. accepted Q (inr i)) (reached_valid R (accepted R (inl refl)) G valid c.rounds C c.reached K k p) o last
 
--- a grammar leaves at most 16 nodes more for each of its firings
-nodes_within : (R : List Rule) → ((rule : Rule) → rule ∈ R → IsAccepted rule) → (G : QGraph) → IsValid G → (C : Stage) → Closes R G C → (H : QGraph) → Cleans C H
-    → H.nodes ≤ G.nodes + 16 * length C.done
-nodes_within R accepted G valid C closes H cleans =
-    omega (arith, (rounds_grow R accepted G closes.rounds C closes.reached).nodes, fewer_nodes C H cleans (keeps_rounds R accepted G valid closes.rounds C closes.reached).valid)
-
--- so does a cascade, with 1,600,000 nodes more for each grammar
-kept_small : {L : ℕ} {G H : QGraph} {Rs : List (List Rule)} {lefts : List Left} → L ≤ 100000 → AllAccepted Rs → IsValid G → Cascade L G Rs lefts all_done → last_graph G lefts ≡ Some H
-    → H.nodes ≤ G.nodes + 1600000 * length Rs
-kept_small low accepted valid (no_more {G = G}) last = omega (arith, ap (λ (K : QGraph). K.nodes) (same_graph last))
-kept_small low accepted valid (empty c few k z) last = absurd cc
-kept_small low accepted valid (goes_on {G = G} {H = K} {R = R} {C = C} c few k p o) last =
-    let right = accepted R (inl refl) in
-    let within = nodes_within R right G valid C c K k in
-    let behind = kept_small low (λ Q i. accepted Q (inr i)) (reached_valid R right G valid c.rounds C c.reached K k p) o last in
-    omega (arith, low, few, within, behind)
-
 module _ (n : ℕ) where
   -- each label in the right sides of these rules is one of the first n
   abbrev AreRightsNamed : List Rule → Type 0
@@ -140,8 +121,3 @@ module _ (L : ℕ) (names : List (List ℕ)) (G H : QGraph) (P : List Grammar) (
   -- its labels are among those of the graph and of the right sides
   pub left_named : (n : ℕ) → ((grammar : Grammar) → grammar ∈ P → (rule : Rule) → rule ∈ grammar.rules → ArePatternsNamed n rule.right) → AreArcsNamed n G.arcs → AreArcsNamed n H.arcs
   left_named n right named = last_named n G H leaves.lefts named (lefts_named n L G P leaves.lefts all_done accepted right named leaves.cascade) leaves.last
-
-  -- and it has few nodes
-  pub left_small : L ≤ 100000 → IsValid G → H.nodes ≤ G.nodes + 1600000 * length P
-  left_small low valid =
-      omega (arith, kept_small low (all_accepted P accepted) valid leaves.cascade leaves.last, length-map P (λ (grammar : Grammar). grammar.rules))

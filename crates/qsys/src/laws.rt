@@ -1,31 +1,29 @@
 //! A law of cascades, over the definitions alone.
 
-ghost use Rattle.std.specs.Prelude.{◌≡◌, ◌≤◌, ℕ, List, ◌++◌};
+ghost use Rattle.std.specs.Prelude.{◌≡◌, ℕ, List, ◌++◌};
 ghost use Rattle.qs_graph.specs.Graphs.{QGraph};
 ghost use Rattle.qs_clean.specs.Cascades.{Ending};
 ghost use Rattle.qs_deck.specs.Decks.{Grammar, IsDeckOf};
-ghost use Rattle.qs_deck.specs.Texts.{deck_text};
 ghost use Rattle.qsys.specs.Outcomes.{IsOutcome};
-ghost use Rattle.qsys.specs.Pieces.{Leaves};
+ghost use Rattle.qsys.specs.Pieces.{CanBeCut, TwoPieces};
 
 use crate::defined_laws::one_outcome;
 
 /// A cascade of two parts may be run in two pieces.
 ///
-/// Let the grammars of an accepted text be those of P and behind them those of Q. Let P, run on its graph, leave a graph H, and
-/// let `first` be the blocks that are written for P. Let the text of the grammars Q and of H behind them be accepted too: it
-/// means a deck with names, grammars and a graph of its own, and `second` is written for the cascade of that deck. Then for the
-/// cascade of P and Q is written `first` and `second` behind it, and it ends as that of the deck does: both by the limit, or
-/// both done. One limit is meant throughout, and no word gives one above 100,000.
+/// Let the rules of the grammars `front` and `back` be accepted, the graph be valid, and each label have a name. Let `front`,
+/// run on the graph, leave a graph, and let `first` be the blocks that are written for it. Let the text of the grammars `back`
+/// and of the graph that is left, behind them, be accepted: it means a deck with names, grammars and a graph of its own, and
+/// `second` is written for the cascade of that deck. Then for the cascade of `front` and `back` is written `first` and `second`
+/// behind it, and nothing else can be (`together`, `same`). It ends as that of the deck does: both by the limit, or both done.
+/// One limit is meant throughout, whatever it is. The names, the grammars and the graph of an accepted text are as is asked
+/// (`decks`).
 pub fn two_pieces()
-    ensures together { (text : List ℕ) (names others : List (List ℕ)) (P Q more : List Grammar) (G H K : QGraph) (limit : ℕ) (first second : List ℕ) (ending : Ending)
-        → limit ≤ 100000 → IsDeckOf text names (P ++ Q) G → Leaves limit names G P first H
-        → IsDeckOf (deck_text names Q H) others more K → IsOutcome limit others K more second ending
-        → IsOutcome limit names G (P ++ Q) (first ++ second) ending }
-    ensures same { (text : List ℕ) (names others : List (List ℕ)) (P Q more : List Grammar) (G H K : QGraph) (limit : ℕ) (first second whole : List ℕ) (ending end : Ending)
-        → limit ≤ 100000 → IsDeckOf text names (P ++ Q) G → Leaves limit names G P first H
-        → IsDeckOf (deck_text names Q H) others more K → IsOutcome limit others K more second ending → IsOutcome limit names G (P ++ Q) whole end
-        → (whole ≡ first ++ second) × (end ≡ ending) }
+    ensures together { (p : TwoPieces) → IsOutcome p.limit p.names p.graph (p.front ++ p.back) (p.first ++ p.second) p.ending }
+    ensures same { (p : TwoPieces) (text : List ℕ) (ending : Ending) → IsOutcome p.limit p.names p.graph (p.front ++ p.back) text ending
+        → (text ≡ p.first ++ p.second) × (ending ≡ p.ending) }
+    ensures decks { (text : List ℕ) (names : List (List ℕ)) (graph : QGraph) (front back : List Grammar)
+        → IsDeckOf text names (front ++ back) graph → CanBeCut names graph front back }
 {
     one_outcome();
 }
