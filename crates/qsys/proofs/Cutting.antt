@@ -1,5 +1,5 @@
 -- What is asked of a cascade that is run in two pieces: that its second part can be written, and that decks have it.
-use Rattle.std.proofs.Common.{◌≡◌, ℕ, ◌<◌, List, ◌++◌, length, Option, Some, None, refl, subst}
+use Rattle.std.proofs.Common.{◌≡◌, ℕ, List, ◌++◌, length, Option, Some, None, refl, subst}
 use Rattle.qs_tree.specs.Lists.{◌∈◌}
 use Rattle.qs_tree.proofs.Members.{in_append_right}
 use Rattle.qs_pattern.specs.Conditions.{Condition}
@@ -58,10 +58,10 @@ cut_deck {names = names} {front = front} {back = back} deck =
       names_on_one_line = known.0;
       accepted = deck_accepted deck;
       named = λ grammar i. (
-          (each grammar i).name,
-          λ rule j.
-              let read = (each grammar i).rules rule j in
-              record { left = read.left.named; right = read.right.named; condition = given_named (length names) rule.condition read.condition },
+        (each grammar i).name,
+        λ rule j.
+            let read = (each grammar i).rules rule j in
+            record { left = read.left.named; right = read.right.named; condition = given_named (length names) rule.condition read.condition },
       );
       full = λ grammar i rule j. given_full (length names) rule.condition ((each grammar (in_append_right front back grammar i)).rules rule j).condition;
       valid = can.2;

@@ -1,6 +1,6 @@
 -- Where the text of a deck has tokens to its end, the graph in it has no more nodes than marks can tell: each node stands on an
 -- arc, and each mark was read.
-use Rattle.std.proofs.Common.{◌≡◌, ℕ, zero, suc, ◌+◌, ◌-◌, ◌*◌, ◌/◌, ◌%◌, ◌<◌, ◌≤◌, ◌==◌, Bool, true, false, cond, refl, sym, ap, ◌∙◌, subst, inl, inr, ⊎_elim, List, [], ◌∷◌, ◌++◌, length, take, drop, get_or, codes, arith, append_assoc, length-append, take-append-drop, eqb-true, lit<}
+use Rattle.std.proofs.Common.{◌≡◌, ℕ, zero, suc, ◌+◌, ◌-◌, ◌*◌, ◌/◌, ◌%◌, ◌<◌, ◌≤◌, ◌==◌, Bool, true, false, cond, refl, sym, ap, ◌∙◌, subst, inl, inr, ⊎_elim, List, [], ◌∷◌, ◌++◌, length, drop, get_or, codes, arith, append_assoc, length-append, take-append-drop, eqb-true, lit<}
 use Rattle.std.specs.Prelude.{decimal, flat_map}
 use Rattle.std.specs.Fmt.{digits, digits_onto, digit_glyph}
 use Rattle.std.specs.Char.{is_ascii_digit}
@@ -8,7 +8,7 @@ use Rattle.std.proofs.lemmas.Bool.{cases_lt}
 use Rattle.std.proofs.lemmas.Bool.Decides.{nat_tests}
 use Rattle.std.proofs.lemmas.Fmt.{length-decimal-le}
 use Rattle.qs_lex.specs.Characters.{Each, is_label, is_variable_letter}
-use Rattle.qs_lex.specs.Spelling.{Spells, between_dashes, between_quotes, suffix_of, name_of}
+use Rattle.qs_lex.specs.Spelling.{Spells, name_of}
 use Rattle.qs_lex.specs.Tokens.{blank_len, next_place, bytes_of, Reads, AreTokensOf}
 use Rattle.qs_lex.specs.declared.token.Token.{Token}
 use Rattle.qs_lex.specs.declared.token.Word.{Word}
