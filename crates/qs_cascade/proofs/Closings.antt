@@ -1,5 +1,5 @@
 -- From round to round.
-use Rattle.std.proofs.Common.{◌≡◌, ℕ, suc, ◌+◌, ◌*◌, ◌<◌, ◌≤◌, ◌-◌, true, false, List, [], ◌∷◌, length, refl, sym, ap, subst, arith}
+use Rattle.std.proofs.Common.{◌≡◌, ℕ, suc, ◌+◌, ◌*◌, ◌<◌, ◌≤◌, ◌-◌, true, false, List, [], length, sym, ap, subst, arith}
 use Rattle.qs_tree.specs.Lists.{◌∈◌}
 use Rattle.qs_pattern.specs.Rules.{Rule, IsAccepted}
 use Rattle.qs_graph.specs.Graphs.{QGraph, IsValid, IsEntry, IsExit}
@@ -43,10 +43,6 @@ pub goes_first : (R : List Rule) (G : QGraph) (L : ℕ) (H : QGraph) (done : Lis
 goes_first R G L H done e d =
     let same : record { graph = H; done = done } ≡ start G = λ i. record { graph = e i; done = d i } in
     subst (λ (S : Stage). Goes R G L 0 0 S) (sym same) (goes_start R G L)
-
-pub is_empty : {X : Type 0} (xs : List X) → length xs ≡ 0 → xs ≡ []
-is_empty [] h = refl
-is_empty (x ∷ xs) h = absurd (omega (arith, h))
 
 -- the search has given up: more new firings than the limit leaves room for
 pub gives_up : (R : List Rule) (G : QGraph) (L n old room : ℕ) (S : Stage) → ((rule : Rule) → rule ∈ R → IsAccepted rule) → Goes R G L n old S → room ≡ L - length S.done

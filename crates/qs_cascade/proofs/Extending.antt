@@ -1,30 +1,19 @@
 -- One more arc behind a path.
 use Rattle.std.proofs.Common.{◌≡◌, ℕ, zero, suc, ◌<◌, ◌≤◌, ◌⊎◌, ◌↔◌, inl, inr, ⊎_elim, List, [], ◌∷◌, ◌++◌, length, take, get_or, refl, sym, ap, ◌∙◌, subst, arith, length-append, append-nil}
 use Rattle.qs_tree.specs.Lists.{◌∈◌, Ascends}
-use Rattle.qs_pattern.specs.declared.pattern.Pattern.{Pattern, Node', Tree, Forest}
-use Rattle.qs_pattern.specs.Patterns.{patterns, count}
+use Rattle.qs_pattern.specs.Patterns.{count}
 use Rattle.qs_match.proofs.Listed.{in_left, in_right, in_either}
 use Rattle.qs_pattern.specs.Rules.{Rule}
 use Rattle.qs_graph.specs.Graphs.{Arc}
+use Rattle.qs_graph.proofs.Numbers.{in_at}
 use Rattle.qs_firing.specs.Firings.{Firing}
 use Rattle.qs_cascade.specs.Finding.{IsNewPath, Begins, HasPath}
-
-pub count-patterns : (ps : List Pattern) → count (patterns ps) ≡ length ps
-count-patterns [] = refl
-count-patterns (Node' h shape ks ∷ ps) = omega (arith, count-patterns ps)
-count-patterns (Tree v ∷ ps) = omega (arith, count-patterns ps)
-count-patterns (Forest v ∷ ps) = omega (arith, count-patterns ps)
-
-pub member_at : (ks : List ℕ) (i : ℕ) → i < length ks → get_or ks i 0 ∈ ks
-member_at [] i h = absurd (omega arith)
-member_at (k ∷ ks) zero h = inl refl
-member_at (k ∷ ks) (suc i) h = inr (member_at ks i (omega arith))
 
 -- in an ascending list those in front of a place are less than what is there
 pub less_in_front : (ks : List ℕ) → Ascends ◌<◌ ks → (i : ℕ) → i < length ks → (j : ℕ) → j ∈ take i ks → j < get_or ks i 0
 less_in_front [] a i h j m = absurd (omega arith)
 less_in_front (k ∷ ks) a zero h j m = absurd m
-less_in_front (k ∷ ks) a (suc i) h j (inl e) = let l = a.0 (get_or ks i 0) (member_at ks i (omega arith)) in omega arith
+less_in_front (k ∷ ks) a (suc i) h j (inl e) = let l = a.0 (get_or ks i 0) (in_at ks i (omega arith)) in omega arith
 less_in_front (k ∷ ks) a (suc i) h j (inr m) = less_in_front ks a.1 i (omega arith) j m
 
 -- a path with one more arc is new where the path was or the arc is

@@ -2,7 +2,6 @@
 use Rattle.std.proofs.Common.{◌≡◌, ℕ, zero, suc, ◌+◌, ◌<◌, ◌≤◌, ◌⊎◌, inl, inr, ⊎_elim, true, false, List, [], ◌∷◌, ◌++◌, length, map, slice_get, refl, sym, ap, ◌∙◌, subst, arith, append_assoc, append-nil}
 use Rattle.std.specs.List.{cons_option}
 use Rattle.std.proofs.lemmas.Bool.{cases_lt}
-use Rattle.std.proofs.lemmas.Option.{slice_get_within}
 use Rattle.qs_tree.specs.Lists.{◌∈◌}
 use Rattle.qs_tree.specs.Trees.{Tree}
 use Rattle.qs_pattern.specs.Instances.{IsMatch}
@@ -16,6 +15,7 @@ use Rattle.qs_firing.specs.Adding.{start_of, end_of, built}
 use Rattle.qs_canon.specs.Rounds.{Round, Rounds, Done, Stage, firings, after, after_one, start, Closes, Needs}
 use Rattle.qs_canon.proofs.Rounds.{length-after}
 use Rattle.qs_canon.proofs.Existence.{has_rounds}
+use Rattle.qs_clean.proofs.Closures.{leads_within}
 use Rattle.qs_cascade.specs.Finding.{IsNewPath, NewFiring, Finds}
 use Rattle.qs_cascade.proofs.Findings.{fewer}
 
@@ -44,13 +44,8 @@ all_new (k ∷ ks) h = (k, inl refl, omega arith)
 below_old : (old : ℕ) (path : List ℕ) → (IsNewPath old path → ⊥) → (k : ℕ) → k ∈ path → k < old
 below_old old path n k i = ⊎_elim (λ l. l) (λ h. absurd (n (k, i, h))) (cases_lt k old)
 
-path_within : (arcs : List Arc) (a : ℕ) (ks : List ℕ) (b : ℕ) → Leads arcs a ks b → (k : ℕ) → k ∈ ks → k < length arcs
-path_within arcs a [] b l j i = absurd i
-path_within arcs a (k ∷ ks) b (arc, at, f, l) j (inl e) = let w = slice_get_within arcs k arc at in omega arith
-path_within arcs a (k ∷ ks) b (arc, at, f, l) j (inr i) = path_within arcs arc.to ks b l j i
-
 pub never_new : (R : List Rule) (arcs : List Arc) (f : Firing) → Fires R arcs f → IsNewPath (length arcs) f.path → ⊥
-never_new R arcs f x (k, i, h) = let l = path_within arcs x.from f.path x.to x.path.leads k i in omega arith
+never_new R arcs f x (k, i, h) = let l = leads_within arcs x.from f.path x.to x.path.leads k i in omega arith
 
 -- ---- firings where arcs come behind those that stood
 
@@ -80,7 +75,7 @@ module _ (arcs more : List Arc) where
     to = x.to;
     path = record { some = x.path.some; leads = leads_more arcs more x.from f.path x.to x.path.leads };
     long = x.long;
-    matches = subst (λ (ts : List Tree). IsMatch x.rule.left ts f.values) (sym (same_trees f.path (path_within arcs x.from f.path x.to x.path.leads))) x.matches;
+    matches = subst (λ (ts : List Tree). IsMatch x.rule.left ts f.values) (sym (same_trees f.path (leads_within arcs x.from f.path x.to x.path.leads))) x.matches;
     holds = x.holds;
   }
 

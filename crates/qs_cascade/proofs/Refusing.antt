@@ -10,7 +10,7 @@ use Rattle.qs_pattern.specs.declared.pattern.Pattern.{Pattern, Node, Node', Tree
 use Rattle.qs_pattern.specs.Patterns.{Patterns, pattern_before, patterns, one_pattern, variables_in, head_variables, AreInClass, NoForestAtTop}
 use Rattle.qs_pattern.specs.Substitutions.{Substitution}
 use Rattle.qs_pattern.specs.Instances.{inst, label_of, tree_in}
-use Rattle.qs_pattern.proofs.InstanceLemmas.{inst-Node, inst-pattern_before}
+use Rattle.qs_pattern.proofs.InstanceLemmas.{inst-Node, inst-pattern_before, single_parts}
 use Rattle.qs_pattern.proofs.VariableLemmas.{HasValue}
 use Rattle.qs_pattern.proofs.Reading.{tree_of_var}
 use Rattle.qs_pattern.proofs.MatchLemmas.{matched_value}
@@ -48,11 +48,6 @@ module _ (s : Substitution) where
   first_class (Tree v) ps c = ((c.0, tt), c.1)
   first_class (Forest v) ps c = ((c.0, tt), c.1)
 
-  first_single : (p : Pattern) (ps : Patterns) → NoForestAtTop (pattern_before p ps) → NoForestAtTop (one_pattern p) × NoForestAtTop ps
-  first_single (Node' h shape ks) ps n = (tt, n)
-  first_single (Tree v) ps n = (tt, n)
-  first_single (Forest v) ps n = absurd n
-
   first_variables : (p : Pattern) (ps : Patterns) (v : Var) → v ∈ variables_in (one_pattern p) → v ∈ variables_in (pattern_before p ps)
   first_variables (Node' h shape ks) ps v i = elim (in_either v (head_variables h) _ i) [
     | inl j ↦ in_left v (head_variables h) _ j
@@ -72,17 +67,17 @@ module _ (s : Substitution) where
       → ((v : Var) → v ∈ variables_in (patterns ps) → HasValue s v) → inst s (patterns ps) ≡ ts → slice_get ts d ≡ Some t → inst s (one_pattern p) ≡ t ∷ []
   tree_at [] d p ts t at c n has e there = absurd cc
   tree_at (q ∷ qs) zero p ts t at c n has e there =
-      let (u, one) = one_tree q (first_class q (patterns qs) c).0 (first_single q (patterns qs) n).0 (λ v i. has v (first_variables q (patterns qs) v i)) in
+      let (u, one) = one_tree q (first_class q (patterns qs) c).0 (single_parts q (patterns qs) n).0 (λ v i. has v (first_variables q (patterns qs) v i)) in
       let whole : u ∷ inst s (patterns qs) ≡ ts = ap (λ xs. xs ++ inst s (patterns qs)) (sym one) ∙ sym (inst-pattern_before s q (patterns qs)) ∙ e in
       let first : slice_get (u ∷ inst s (patterns qs)) 0 ≡ Some t = subst (λ xs. slice_get xs 0 ≡ Some t) (sym whole) there in
       let same : u ≡ t = cc in
       let this : q ≡ p = cc in
       ap (λ r. inst s (one_pattern r)) (sym this) ∙ one ∙ ap (λ x. x ∷ []) same
   tree_at (q ∷ qs) (suc d) p ts t at c n has e there =
-      let (u, one) = one_tree q (first_class q (patterns qs) c).0 (first_single q (patterns qs) n).0 (λ v i. has v (first_variables q (patterns qs) v i)) in
+      let (u, one) = one_tree q (first_class q (patterns qs) c).0 (single_parts q (patterns qs) n).0 (λ v i. has v (first_variables q (patterns qs) v i)) in
       let whole : u ∷ inst s (patterns qs) ≡ ts = ap (λ xs. xs ++ inst s (patterns qs)) (sym one) ∙ sym (inst-pattern_before s q (patterns qs)) ∙ e in
       let behind : slice_get (inst s (patterns qs)) d ≡ Some t = subst (λ xs. slice_get xs (suc d) ≡ Some t) (sym whole) there in
-      tree_at qs d p (inst s (patterns qs)) t at (first_class q (patterns qs) c).1 (first_single q (patterns qs) n).1 (λ v i. has v (other_variables q (patterns qs) v i)) refl behind
+      tree_at qs d p (inst s (patterns qs)) t at (first_class q (patterns qs) c).1 (single_parts q (patterns qs) n).1 (λ v i. has v (other_variables q (patterns qs) v i)) refl behind
 
 -- ---- the tree on the arc at a place of a path
 

@@ -1,5 +1,6 @@
 use Rattle.std.proofs.Common.{◌≡◌, ◌≤◌, ◌<◌, ◌+◌, ◌-◌, ℕ, suc, List, length, ap, arith, sym, subst}
 use Rattle.std.proofs.lemmas.Bool.Decides.{nat_tests}
+use Rattle.std.proofs.lemmas.List.{nil_from_length}
 use Rattle.qs_tree.specs.Lists.{◌∈◌}
 use Rattle.qs_graph.specs.Graphs.{Arc}
 use Rattle.qs_firing.specs.Firings.{Firing}
@@ -8,7 +9,7 @@ use Rattle.qs_canon.specs.Closures.{ClosureOf}
 use Rattle.qs_canon.proofs.Rounds.{length-after}
 use Rattle.qs_cascade.specs.Finding.{FindsRound}
 use Rattle.qs_cascade.specs.Closing.{ClosesSoon}
-use Rattle.qs_cascade.proofs.Closings.{Goes, goes_first, goes_next, is_empty, gives_up, passes, closes_soon}
+use Rattle.qs_cascade.proofs.Closings.{Goes, goes_first, goes_next, gives_up, passes, closes_soon}
 use Rattle.qs_cascade.proofs.closing.closure.Goals as goal
 
 pub rounds-init : goal.rounds-init
@@ -48,7 +49,7 @@ returns-then-is_empty c =
     let first : length c.edges.result.now ≡ length c.args.start.now.arcs = ap (λ (arcs : List Arc). length arcs) c.edges.ensures.value in
     subst (λ (x : ClosureOf). ClosesSoon c.args.rules.now c.args.start.now c.args.limit x) (sym c.into_closure.ensures)
     (closes_soon c.args.rules.now c.args.start.now c.args.limit c.rounds.round c.rounds.old (c.args.limit - c.len.result) S c.in-Some.found.items c.entry-entry.result c.exit-exit.result (length c.edges.result.now)
-    c.know_accepted.ensures c.edges.ensures.valid c.rounds.invariant x (is_empty c.in-Some.found.items none) c.entry-entry.ensures c.exit-exit.ensures first)
+    c.know_accepted.ensures c.edges.ensures.valid c.rounds.invariant x (nil_from_length c.in-Some.found.items none) c.entry-entry.ensures c.exit-exit.ensures first)
 
 pub returns-then-len-room : goal.returns-then-len-room
 returns-then-len-room c =
