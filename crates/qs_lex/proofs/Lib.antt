@@ -21,3 +21,5 @@ pub mod Predictive
 pub mod Renaming
 pub mod Predicting
 pub mod Stopping
+pub mod Deciding
+pub mod Meanings
