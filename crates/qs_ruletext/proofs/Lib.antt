@@ -28,3 +28,5 @@ pub mod NestingWritten
 pub mod AtOnce
 pub mod NamesInUtf8
 pub mod TextsInUtf8
+pub mod KnownTokens
+pub mod WholeRead

@@ -29,7 +29,7 @@ rest_at tokens front rest e =
     let place : length tokens - length rest ≡ length front = omega (arith, long) in
     sym (ap (λ k. drop k tokens) place ∙ ap (drop (length front)) e ∙ drop-append_seam front rest)
 
-spelled_good : (kind : Kind) (bytes : List ℕ) → Spells kind bytes → IsGood kind
+pub spelled_good : (kind : Kind) (bytes : List ℕ) → Spells kind bytes → IsGood kind
 spelled_good Bare bytes s = tt
 spelled_good Quoted bytes s = tt
 spelled_good (Variable letter number) bytes s = (s.0, s.1)

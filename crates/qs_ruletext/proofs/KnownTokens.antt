@@ -1,0 +1,180 @@
+-- Names that grow by tokens of a text name each label among them, and there are such names for all tokens of a text.
+use Rattle.std.proofs.Common.{◌≡◌, ℕ, zero, suc, Bool, true, false, refl, sym, ◌∙◌, ap, subst, ⊎_elim, inl, inr, List, [], ◌∷◌, ◌++◌, length, Some, slice_get, Contains}
+use Rattle.std.specs.Prelude.{◌⊎◌}
+use Rattle.std.specs.Int.{is_in_range}
+use Rattle.std.specs.List.{All}
+use Rattle.std.proofs.lemmas.List.Elements.{All-nil, All-cons, All-head, All-tail}
+use Rattle.std.proofs.lemmas.Option.{slice_get-get_or}
+use Rattle.qs_lex.specs.declared.token.Token.{Token}
+use Rattle.qs_lex.specs.declared.token.Kind.{Kind}
+use Rattle.qs_lex.specs.declared.token.Kind.TheVariants.{Bare, Quoted, Variable, Node, Word as a_word, Opening, Closing, Comma, Plus, Slash, Equals, Stop}
+use Rattle.qs_lex.specs.Spelling.{Spells, IsLabelText}
+use Rattle.qs_lex.specs.Tokens.{IsTokenOf, IsLabel, HasLabelText, bytes_of}
+use Rattle.qs_lex.specs.Grammar.{Sort, a_label, a_label_variable, a_tree_variable, a_forest_variable, variable_sort, sort_of, IsOf}
+use Rattle.qs_lex.specs.Expecting.{same_sort}
+use Rattle.qs_lex.proofs.Readings.{token_stands}
+use Rattle.qs_tree.specs.declared.cell.Label.{Label}
+use Rattle.qs_tree.specs.Lists.{◌∈◌}
+use Rattle.qs_tree.proofs.Decisions.{decide_number, decide_list, decide_member}
+use Rattle.qs_tree.proofs.Members.{in_at}
+use Rattle.qs_tree.proofs.NamesLemmas.{Contains-slice_get}
+use Rattle.qs_pattern.specs.declared.variable.Var.{Var}
+use Rattle.qs_ruletext.specs.Reading.{IsLabelOf, IsVariableOf}
+use Rattle.qs_ruletext.specs.Rules.{KeepsNames}
+use Rattle.qs_ruletext.specs.Names.{AddsName, AddsNameOf, NamesGrow}
+use Rattle.qs_ruletext.specs.Cursors.{IsGood, Readable}
+use Rattle.qs_ruletext.proofs.RulesRead.{spelled_good}
+
+-- a variable of some kind
+abbrev pub is_variable : Sort → Bool
+is_variable a_label_variable = true
+is_variable a_tree_variable = true
+is_variable a_forest_variable = true
+is_variable _ = false
+
+-- in these names the token has a number where it is a label, and it is a variable where its sort says so
+pub record IsKnown (names : List (List ℕ)) (text : List ℕ) (t : Token) : Type 0 where
+  pub label : IsOf a_label t → (l : Label) × IsLabelOf names text t l
+  pub variable : (s : Sort) → is_variable s ≡ true → IsOf s t → (v : Var) × IsVariableOf s t v
+
+pub variable_is : (letter : ℕ) → is_variable (variable_sort letter) ≡ true
+variable_is letter = by (is_in_range 65 70 letter) refl (is_in_range 73 78 letter) refl
+  where
+    by : (a : Bool) → is_in_range 65 70 letter ≡ a → (b : Bool) → is_in_range 73 78 letter ≡ b → is_variable (variable_sort letter) ≡ true
+    by true e b f = rw e refl
+    by false e true f = rw (e, f) refl
+    by false e false f = rw (e, f) refl
+
+-- a token of the sort of labels is one
+label_is : (kind : Kind) → sort_of kind ≡ a_label → (kind ≡ Bare) ⊎ (kind ≡ Quoted)
+label_is Bare e = inl refl
+label_is Quoted e = inr refl
+label_is (Variable letter number) e = let other : true ≡ false = sym (variable_is letter) ∙ ap is_variable e in absurd cc
+label_is (Node number) e = absurd cc
+label_is (a_word w) e = absurd cc
+label_is Opening e = absurd cc
+label_is Closing e = absurd cc
+label_is Comma e = absurd cc
+label_is Plus e = absurd cc
+label_is Slash e = absurd cc
+label_is Equals e = absurd cc
+label_is Stop e = absurd cc
+
+variable_of : (t : Token) (s : Sort) → IsGood t.kind → is_variable s ≡ true → IsOf s t → (v : Var) × IsVariableOf s t v
+variable_of t s good is of = by t.kind refl good of
+  where
+    no_variable : (r : Sort) → is_variable r ≡ false → r ≡ s → ⊥
+    no_variable r n e = let other : true ≡ false = sym is ∙ sym (ap is_variable e) ∙ n in absurd cc
+
+    by : (kind : Kind) → t.kind ≡ kind → IsGood kind → sort_of kind ≡ s → (v : Var) × IsVariableOf s t v
+    by (Variable letter number) e g o = (record { letter = letter; number = number; known = g }, record { of_sort = of; variable = e })
+    by Bare e g o = absurd (no_variable a_label refl o)
+    by Quoted e g o = absurd (no_variable a_label refl o)
+    by (Node number) e g o = absurd (no_variable (sort_of (Node number)) refl o)
+    by (a_word w) e g o = absurd (no_variable (sort_of (a_word w)) refl o)
+    by Opening e g o = absurd (no_variable (sort_of Opening) refl o)
+    by Closing e g o = absurd (no_variable (sort_of Closing) refl o)
+    by Comma e g o = absurd (no_variable (sort_of Comma) refl o)
+    by Plus e g o = absurd (no_variable (sort_of Plus) refl o)
+    by Slash e g o = absurd (no_variable (sort_of Slash) refl o)
+    by Equals e g o = absurd (no_variable (sort_of Equals) refl o)
+    by Stop e g o = absurd (no_variable (sort_of Stop) refl o)
+
+-- ---- names that grow keep what they have
+
+place_in_longer : (names more : List (List ℕ)) (k : ℕ) (text : List ℕ) → slice_get names k ≡ Some text → slice_get (names ++ more) k ≡ Some text
+place_in_longer [] more k text e = absurd cc
+place_in_longer (n ∷ names) more zero text e = e
+place_in_longer (n ∷ names) more (suc k) text e = place_in_longer names more k text e
+
+addition_keeps : (old new : List (List ℕ)) (label : List ℕ) → AddsName old label new → KeepsNames old new
+addition_keeps old new label (inl a) k text e = subst (λ ns. slice_get ns k ≡ Some text) (sym a.1) e
+addition_keeps old new label (inr a) k text e = subst (λ ns. slice_get ns k ≡ Some text) (sym a.1) (place_in_longer old (label ∷ []) k text e)
+
+token_keeps : (text : List ℕ) (t : Token) (old new : List (List ℕ)) → AddsNameOf text t old new → KeepsNames old new
+token_keeps text t old new (inl a) k spelling e = subst (λ ns. slice_get ns k ≡ Some spelling) (sym a.1) e
+token_keeps text t old new (inr a) k spelling e = addition_keeps old new a.0 a.2 k spelling e
+
+grow_keeps : (text : List ℕ) (ts : List Token) (old new : List (List ℕ)) → NamesGrow text ts old new → KeepsNames old new
+grow_keeps text [] old new g k spelling e = subst (λ ns. slice_get ns k ≡ Some spelling) (sym g) e
+grow_keeps text (t ∷ ts) old new g k spelling e = grow_keeps text ts g.0 new g.2 k spelling (token_keeps text t old g.0 g.1 k spelling e)
+
+-- a text that is contained stands at a place
+place_of : (names : List (List ℕ)) (label : List ℕ) → Contains names label → (k : ℕ) × (slice_get names k ≡ Some label)
+place_of names label c = (c.0, slice_get-get_or names c.0 label c.1 ∙ ap (λ text. Some text) c.2)
+
+last_place : (names : List (List ℕ)) (label : List ℕ) → slice_get (names ++ label ∷ []) (length names) ≡ Some label
+last_place [] label = refl
+last_place (n ∷ names) label = last_place names label
+
+added_place : (old new : List (List ℕ)) (label : List ℕ) → AddsName old label new → (k : ℕ) × (slice_get new k ≡ Some label)
+added_place old new label (inl a) = let p = place_of old label a.0 in (p.0, subst (λ ns. slice_get ns p.0 ≡ Some label) (sym a.1) p.1)
+added_place old new label (inr a) = (length old, subst (λ ns. slice_get ns (length old) ≡ Some label) (sym a.1) (last_place old label))
+
+label_of : (names : List (List ℕ)) (text : List ℕ) (t : Token) (old new : List (List ℕ)) → AddsNameOf text t old new → KeepsNames new names → IsOf a_label t
+    → (l : Label) × IsLabelOf names text t l
+label_of names text t old new (inl a) keeps e = absurd (a.0 (label_is t.kind e))
+label_of names text t old new (inr a) keeps e =
+    let p = added_place old new a.0 a.2 in (record { 0 = p.0 }, record { spelling = a.0; of_token = a.1; named = keeps p.0 a.0 p.1 })
+
+-- tokens of a text can be read
+pub all_readable : (text : List ℕ) (ts : List Token) → All (IsTokenOf text) ts → Readable text ts
+all_readable text [] all = tt
+all_readable text (t ∷ ts) all =
+    let of = All-head (IsTokenOf text) t ts all in
+    (of, spelled_good t.kind (bytes_of text t) (token_stands of).spelled, all_readable text ts (All-tail (IsTokenOf text) t ts all))
+
+-- tokens by which names have grown are known
+pub all_known : (text : List ℕ) (ts : List Token) (old names : List (List ℕ)) → Readable text ts → NamesGrow text ts old names → All (IsKnown names text) ts
+all_known text [] old names r g = All-nil (IsKnown names text)
+all_known text (t ∷ ts) old names r g =
+    All-cons (IsKnown names text) t ts
+    (record { label = label_of names text t old g.0 g.1 (grow_keeps text ts g.0 names g.2); variable = λ s is of. variable_of t s r.1 is of })
+    (all_known text ts g.0 names r.2 g.2)
+
+-- ---- there are such names
+
+unlabelled : (kind : Kind) → same_sort a_label (sort_of kind) ≡ false → (kind ≡ Bare) ⊎ (kind ≡ Quoted) → ⊥
+unlabelled kind n l =
+    let is : sort_of kind ≡ a_label = ⊎_elim (λ e. ap sort_of e) (λ e. ap sort_of e) l in
+    let other : true ≡ false = sym (ap (same_sort a_label) is) ∙ n in
+    absurd cc
+
+text_of : (text : List ℕ) (t : Token) → IsTokenOf text t → (IsLabel t → ⊥) ⊎ ((label : List ℕ) × HasLabelText text t label)
+text_of text t of = by t.kind (bytes_of text t) (token_stands of).spelled
+  where
+    by : (kind : Kind) (bytes : List ℕ) → Spells kind bytes → ((kind ≡ Bare) ⊎ (kind ≡ Quoted) → ⊥) ⊎ ((label : List ℕ) × IsLabelText kind bytes label)
+    by Bare bytes s = inr (bytes, refl)
+    by Quoted bytes s = inr (s.0, s.2)
+    by (Variable letter number) bytes s = inl (λ l. ⊎_elim (λ e. absurd cc) (λ e. absurd cc) l)
+    by (Node number) bytes s = inl (unlabelled (Node number) refl)
+    by (a_word w) bytes s = inl (λ l. ⊎_elim (λ e. absurd cc) (λ e. absurd cc) l)
+    by Opening bytes s = inl (unlabelled Opening refl)
+    by Closing bytes s = inl (unlabelled Closing refl)
+    by Comma bytes s = inl (unlabelled Comma refl)
+    by Plus bytes s = inl (unlabelled Plus refl)
+    by Slash bytes s = inl (unlabelled Slash refl)
+    by Equals bytes s = inl (unlabelled Equals refl)
+    by Stop bytes s = inl (unlabelled Stop refl)
+
+member_place : (names : List (List ℕ)) (label : List ℕ) → label ∈ names → (k : ℕ) × (slice_get names k ≡ Some label)
+member_place [] label i = absurd i
+member_place (n ∷ names) label (inl e) = (0, ap (λ text. Some text) (sym e))
+member_place (n ∷ names) label (inr i) = let p = member_place names label i in (suc p.0, p.1)
+
+one_addition : (old : List (List ℕ)) (label : List ℕ) → (new : List (List ℕ)) × AddsName old label new
+one_addition old label = by (decide_member (decide_list decide_number) label old)
+  where
+    by : Dec (label ∈ old) → (new : List (List ℕ)) × AddsName old label new
+    by (yes i) = let p = member_place old label i in (old, inl (Contains-slice_get old label p.0 p.1, refl))
+    by (no n) = (old ++ label ∷ [], inr (λ c. let p = place_of old label c in n (in_at old p.0 label p.1), refl))
+
+-- the names grow by all tokens of a text
+pub names_grow : (text : List ℕ) (ts : List Token) (old : List (List ℕ)) → Readable text ts → (new : List (List ℕ)) × NamesGrow text ts old new
+names_grow text [] old r = (old, refl)
+names_grow text (t ∷ ts) old r = by (text_of text t r.0) (λ next. names_grow text ts next r.2)
+  where
+    by : (IsLabel t → ⊥) ⊎ ((label : List ℕ) × HasLabelText text t label) → ((next : List (List ℕ)) → (new : List (List ℕ)) × NamesGrow text ts next new)
+        → (new : List (List ℕ)) × NamesGrow text (t ∷ ts) old new
+    by (inl n) rest = let g = rest old in (g.0, (old, inl (n, refl), g.1))
+    by (inr l) rest = let a = one_addition old l.0 in let g = rest a.0 in (g.0, (a.0, inr (l.0, l.1, a.1), g.1))
