@@ -13,7 +13,6 @@ pub mod Meanings
 -- Writing.
 pub mod Errors
 -- That there is one meaning or one refusal.
-pub mod Fronts
 pub mod WholeDecks
 pub mod OneDeck
 pub mod OneFault

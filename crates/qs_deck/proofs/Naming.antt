@@ -8,7 +8,7 @@ use Rattle.qs_ruletext.specs.Rules.{between}
 use Rattle.qs_ruletext.specs.Names.{AddsNameOf, NamesGrow}
 use Rattle.qs_ruletext.proofs.Naming.{grow_on}
 use Rattle.qs_deck.specs.Readers.{IsHeading}
-use Rattle.qs_deck.proofs.Steps.{drop_twice}
+use Rattle.qs_ruletext.proofs.Between.{drop_twice}
 
 take_on : (us : List Token) (m n k : ℕ) → k ≡ m + n → take m us ++ take n (drop m us) ≡ take k us
 take_on us zero n k e = ap (λ j. take j us) (let f : n ≡ k = omega (arith, e) in f)

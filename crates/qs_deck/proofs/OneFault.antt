@@ -33,7 +33,7 @@ use Rattle.qs_deck.specs.Checked.{AreAccepted}
 use Rattle.qs_deck.specs.Checks.{IsChecked, IsCheckFault, too_many_systems, rule_not_accepted}
 use Rattle.qs_deck.specs.Decks.{Grammar, meaning_of, HasTokens, IsWritten, IsDeckOf}
 use Rattle.qs_deck.specs.Refusals.{byte_of, IsFirstTooDeep, IsGraphFault, too_many_arcs, cycle, entries, exits, IsFault, bytes, tokens, nesting, syntax, check, graph, IsRefusalOf}
-use Rattle.qs_deck.proofs.Fronts.{front_begins}
+use Rattle.qs_lex.proofs.Fronts.{front_begins}
 use Rattle.qs_deck.proofs.WholeDecks.{deck_whole}
 use Rattle.qs_deck.proofs.OneDeck.{one_deck}
 

@@ -25,7 +25,7 @@ use Rattle.qs_deck.specs.Reading.{ReadsSystems, ReadsDeck}
 use Rattle.qs_deck.specs.Syntax.{CannotGoOn, EndsAt}
 use Rattle.qs_deck.specs.Readers.{table, StopsAt, EndsIn, AreSystemsRead}
 use Rattle.qs_deck.proofs.Tables.{more, ok, ok_table, graphs_are}
-use Rattle.qs_deck.proofs.Steps.{next_at, between_drop}
+use Rattle.qs_ruletext.proofs.Between.{next_at, between_drop}
 use Rattle.qs_deck.proofs.Systems.{to_graph}
 
 -- a graph that can't go on

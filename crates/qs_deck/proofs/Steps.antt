@@ -16,6 +16,7 @@ use Rattle.qs_ruletext.specs.declared.raw.TextEnd.{TextEnd}
 use Rattle.qs_ruletext.specs.declared.raw.TextEnd.TheVariants.{Syntax, Memory}
 use Rattle.qs_ruletext.specs.Rules.{between, CannotGoOn, EndsFrom, NoRuleAt}
 use Rattle.qs_ruletext.specs.Cursors.{IsNext, begins_tree}
+use Rattle.qs_ruletext.proofs.Between.{drop_twice, next_at, between_drop, some_between}
 use Rattle.qs_deck.specs.Grammar.{Part, system, of_rules, line}
 use Rattle.qs_deck.specs.Readers.{table, behind_system, IsHeading, StopsAt, EndsIn}
 use Rattle.qs_deck.proofs.Tables.{more, ok, ok_table, rule_apart, rules_are, token}
@@ -79,14 +80,6 @@ heading_leads ts word name h =
     to_rules ts (name ∷ h.dot ∷ h.rest) (h.dot ∷ h.rest) h.rest (word, h.are, h.of_word) (label_next (name ∷ h.dot ∷ h.rest) (h.dot ∷ h.rest) name refl h.of_name) (h.dot, refl, h.of_dot)
 
 -- places
-pub drop_twice : (ts : List Token) (m n k : ℕ) → k ≡ m + n → drop n (drop m ts) ≡ drop k ts
-drop_twice ts zero n k e = ap (λ j. drop j ts) (let f : n ≡ k = omega (arith, e) in f)
-drop_twice [] (suc m) n zero e = absurd (omega (arith, e))
-drop_twice [] (suc m) zero (suc k) e = refl
-drop_twice [] (suc m) (suc n) (suc k) e = refl
-drop_twice (t ∷ ts) (suc m) n zero e = absurd (omega (arith, e))
-drop_twice (t ∷ ts) (suc m) n (suc k) e = drop_twice ts m n k (omega (arith, e))
-
 pub heading_rest : (ts : List Token) (from : ℕ) (word name : Token) (h : IsHeading (drop from ts) word name) → h.rest ≡ drop (from + 3) ts
 heading_rest ts from word name h = sym (ap (drop 3) h.are) ∙ drop_twice ts from 3 (from + 3) (omega arith)
 
@@ -104,23 +97,6 @@ get_from (x ∷ ts) (suc from) k (suc at) us t place e there = get_from ts from 
 pub name_of_text : (text : List ℕ) (ts : List Token) (from : ℕ) (word name : Token) → AreTokensOf text ts → IsHeading (drop from ts) word name → IsTokenOf text name
 name_of_text text ts from word name are h =
     record { tokens = ts; are = are; index = from + 1; there = get_from ts from 1 (from + 1) (word ∷ name ∷ h.dot ∷ h.rest) name refl h.are refl }
-
-pub next_at : (ts us : List Token) (at : ℕ) (t : Token) → drop at ts ≡ t ∷ us → slice_get ts at ≡ Some t
-next_at (x ∷ ts) us zero t e = let same : x ≡ t = cc in ap Some same
-next_at [] us zero t e = absurd cc
-next_at [] us (suc at) t e = absurd cc
-next_at (x ∷ ts) us (suc at) t e = next_at ts us at t e
-
-pub between_drop : (ts : List Token) (from to : ℕ) → from ≤ to → between ts from to ++ drop to ts ≡ drop from ts
-between_drop ts from to le =
-    ap (λ us. between ts from to ++ us) (sym (drop_twice ts from (to - from) to (omega (arith, le)))) ∙ take-append-drop (to - from) (drop from ts)
-
--- the part that was begun isn't empty
-pub some_between : (ts : List Token) (from to : ℕ) → from < to → to ≤ length ts → between ts from to ≡ [] → ⊥
-some_between ts from to lt le e =
-    let whole : drop to ts ≡ drop from ts = sym (ap (λ us. us ++ drop to ts) e) ∙ between_drop ts from to (omega (arith, lt)) in
-    let long : length ts - to ≡ length ts - from = sym (length-drop to ts) ∙ ap length whole ∙ length-drop from ts in
-    absurd (omega (arith, long, lt, le))
 
 -- a rule that can't go on
 pub ends_in_rules : (ts : List Token) (from at : ℕ) (word name : Token) → IsHeading (drop from ts) word name → CannotGoOn ts (from + 3) at

@@ -12,6 +12,7 @@ use Rattle.qs_lex.proofs.Predictive.{IsPredicted}
 use Rattle.qs_lex.proofs.Predicting.{is_good, predicted, apart_is}
 use Rattle.qs_ruletext.specs.Grammar as rules
 use Rattle.qs_ruletext.specs.Cursors.{IsNext, begins_tree}
+use Rattle.qs_ruletext.proofs.Tables as rule_tables
 use Rattle.qs_graphtext.specs.Grammar as graphs
 use Rattle.qs_deck.specs.Grammar.{Part, deck, system, of_rules, of_graphs, line}
 use Rattle.qs_deck.specs.Readers.{table, behind_system}
@@ -21,15 +22,7 @@ use Rattle.qs_deck.specs.Readers.{table, behind_system}
 abbrev pub more : Part → Sort → Bool
 more deck k = false
 more system k = begins_tree k
-more (of_rules rules.rule) k = false
-more (of_rules rules.side) k = same_sort plus k || same_sort opening k
-more (of_rules rules.tree) k = same_sort opening k
-more (of_rules rules.list) k = same_sort comma k || same_sort opening k
-more (of_rules rules.item) k = same_sort opening k
-more (of_rules rules.cond) k = same_sort (the_word Ou) k || (same_sort (the_word Et) k || (same_sort comma k || same_sort opening k))
-more (of_rules rules.conj) k = same_sort (the_word Et) k || (same_sort comma k || same_sort opening k)
-more (of_rules rules.neg) k = same_sort comma k || same_sort opening k
-more (of_rules rules.prim) k = same_sort comma k || same_sort opening k
+more (of_rules p) k = rule_tables.more p k
 more (of_graphs graphs.graph) k = false
 more (of_graphs graphs.chain) k = false
 more (of_graphs graphs.plain) k = same_sort opening k

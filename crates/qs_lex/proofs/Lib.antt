@@ -21,5 +21,7 @@ pub mod Predictive
 pub mod Renaming
 pub mod Predicting
 pub mod Stopping
+pub mod Fronts
+pub mod OneEnd
 pub mod Deciding
 pub mod Meanings

@@ -30,3 +30,5 @@ pub mod NamesInUtf8
 pub mod TextsInUtf8
 pub mod KnownTokens
 pub mod WholeRead
+pub mod Between
+pub mod RulesEnd

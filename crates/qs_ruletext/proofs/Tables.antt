@@ -1,41 +1,48 @@
--- The grammar of rules has no empty part, and the table says with which sorts each may begin.
-use Rattle.std.proofs.Common.{◌≡◌, ℕ, ◌+◌, Bool, true, false, refl, sym, ◌∙◌, ap, subst, List, [], ◌∷◌, length, arith, Result}
+-- The grammar of rules has no empty part, the table says with which sorts each may begin, and the next token tells how to go on.
+use Rattle.std.proofs.Common.{◌≡◌, ℕ, ◌+◌, Bool, true, false, ◌||◌, refl, sym, ◌∙◌, ap, subst, List, [], ◌∷◌, length, arith, Result}
 use Rattle.std.specs.Prelude.{IfErr, IsErrAnd}
 use Rattle.std.proofs.lemmas.Result.{err_from_is_err_and}
 use Rattle.qs_lex.specs.declared.token.Token.{Token}
-use Rattle.qs_lex.specs.Grammar.{Sort, Form, one}
-use Rattle.qs_lex.specs.Expecting.{nullable, first, starts, NextIsNo, Refuse, may_end, Leads}
+use Rattle.qs_lex.specs.declared.token.Word.TheVariants.{Et, Ou}
+use Rattle.qs_lex.specs.Grammar.{Sort, the_word, opening, comma, plus, Form, one}
+use Rattle.qs_lex.specs.Expecting.{same_sort, starts, NextIsNo, Refuse, may_end, Leads}
 use Rattle.qs_lex.proofs.Expected.{IsTable}
+use Rattle.qs_lex.proofs.Predictive.{IsPredicted}
+use Rattle.qs_lex.proofs.Predicting.{is_good, predicted}
 use Rattle.qs_lex.proofs.Going.{leads_token, stops_here, stops_behind}
 use Rattle.qs_ruletext.specs.Grammar.{Part, rule, side, tree, list, item, cond, conj, neg, prim, line}
 use Rattle.qs_ruletext.specs.declared.cursor.Halt.{Halt}
 use Rattle.qs_ruletext.specs.declared.cursor.Halt.TheVariants.{Syntax, Memory}
 use Rattle.qs_ruletext.specs.Cursors.{table, Readable, IsNext, IsNextGood, Ends}
 
-begins : (p : Part) (k : Sort) → first table (line p) k ≡ true → table p k ≡ true
-begins rule k e = e
-begins side k e = e
-begins tree k e = e
-begins list k e = e
-begins item k e = e
-begins cond k e = e
-begins conj k e = e
-begins neg k e = e
-begins prim k e = e
+-- with which sorts a whole part may go on
+abbrev pub more : Part → Sort → Bool
+more rule k = false
+more side k = same_sort plus k || same_sort opening k
+more tree k = same_sort opening k
+more list k = same_sort comma k || same_sort opening k
+more item k = same_sort opening k
+more cond k = same_sort (the_word Ou) k || (same_sort (the_word Et) k || (same_sort comma k || same_sort opening k))
+more conj k = same_sort (the_word Et) k || (same_sort comma k || same_sort opening k)
+more neg k = same_sort comma k || same_sort opening k
+more prim k = same_sort comma k || same_sort opening k
 
-never_empty : (p : Part) → nullable (line p) ≡ false
-never_empty rule = refl
-never_empty side = refl
-never_empty tree = refl
-never_empty list = refl
-never_empty item = refl
-never_empty cond = refl
-never_empty conj = refl
-never_empty neg = refl
-never_empty prim = refl
+good : (p : Part) → is_good line table more p ≡ true
+good rule = refl
+good side = refl
+good tree = refl
+good list = refl
+good item = refl
+good cond = refl
+good conj = refl
+good neg = refl
+good prim = refl
+
+pub all_ok : IsPredicted line table more
+all_ok = predicted line table more good
 
 pub ok : IsTable line table
-ok = record { begins = begins; never_empty = never_empty }
+ok = all_ok.table_is
 
 -- what holds of a sort holds of the next token, which is of it
 pub next_is_no : (p : Sort → Bool) (s : Sort) (ts rest : List Token) → p s ≡ false → IsNext s ts rest → NextIsNo p ts

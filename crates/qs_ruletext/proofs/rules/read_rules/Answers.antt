@@ -6,6 +6,7 @@ use Rattle.qs_ruletext.specs.Rules.{ReadsRules}
 use Rattle.qs_ruletext.proofs.Told.{told_rules}
 use Rattle.qs_ruletext.proofs.Naming.{names_between}
 use Rattle.qs_ruletext.proofs.RulesRead.{none_so_far, one_more_so_far, rest_at, all_read, all_whole, no_rule_at}
+use Rattle.qs_ruletext.proofs.RulesEnd.{not_both_ends, only_memory}
 use Rattle.qs_ruletext.proofs.rules.read_rules.Goals as goal
 
 pub loop-alloc-init : goal.loop-alloc-init
@@ -46,3 +47,11 @@ returns-clause-made c =
 pub returns-clause-names : goal.returns-clause-names
 returns-clause-names c =
     names_between c.args.text.now c.args.tokens.now c.loop-alloc.rest.now c.args.from c.args.names.now c.loop-alloc.names c.requires.within c.loop-alloc.invariant.names
+
+pub returns-clause-faulty : goal.returns-clause-faulty
+returns-clause-faulty c = λ at stops.
+    absurd (not_both_ends c.args.tokens.now c.args.from (length c.args.tokens.now - length c.loop-alloc.rest.now) at (returns-clause-whole c) (returns-clause-behind c) stops)
+
+pub returns-in-Err-clause-faultless : goal.returns-in-Err-clause-faultless
+returns-in-Err-clause-faultless c = λ to whole none.
+    only_memory c.args.tokens.now c.args.from c.text_end.result (returns-in-Err-clause-ends c) (λ at stops. not_both_ends c.args.tokens.now c.args.from to at whole none stops)
