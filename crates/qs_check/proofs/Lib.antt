@@ -3,3 +3,4 @@ pub mod Among
 pub mod Sides
 pub mod Limits
 pub mod WhatIsRead
+pub mod EachRule

@@ -23,3 +23,6 @@ pub mod DecksNested
 pub mod DeckLabels
 pub mod DecksInUtf8
 pub mod DecksAccepted
+-- That there is one.
+pub mod WholeRead
+pub mod EachText

@@ -14,6 +14,7 @@ use Rattle.qs_ruletext.specs.Grammar as rules
 use Rattle.qs_ruletext.specs.Cursors.{IsNext, begins_tree}
 use Rattle.qs_ruletext.proofs.Tables as rule_tables
 use Rattle.qs_graphtext.specs.Grammar as graphs
+use Rattle.qs_graphtext.proofs.Tables as graph_tables
 use Rattle.qs_deck.specs.Grammar.{Part, deck, system, of_rules, of_graphs, line}
 use Rattle.qs_deck.specs.Readers.{table, behind_system}
 
@@ -23,9 +24,7 @@ abbrev pub more : Part → Sort → Bool
 more deck k = false
 more system k = begins_tree k
 more (of_rules p) k = rule_tables.more p k
-more (of_graphs graphs.graph) k = false
-more (of_graphs graphs.chain) k = false
-more (of_graphs graphs.plain) k = same_sort opening k
+more (of_graphs p) k = graph_tables.more p k
 
 good : (p : Part) → is_good line table more p ≡ true
 good deck = refl

@@ -21,3 +21,7 @@ pub mod SameGraph
 pub mod WrittenGraphs
 pub mod GraphNesting
 pub mod GraphsInUtf8
+pub mod WholeRead
+pub mod GraphDecisions
+pub mod ChainDecisions
+pub mod GraphEnd

@@ -1,9 +1,9 @@
 -- New numbers of nodes, from the ascending list of the written ones.
-use Rattle.std.proofs.Common.{◌≡◌, ◌≢◌, ◌↔◌, ℕ, zero, suc, ◌<◌, ◌≤◌, Bool, true, false, ◌&&◌, cond, List, [], ◌∷◌, length, get_or, refl, sym, ◌∙◌, ap, arith}
+use Rattle.std.proofs.Common.{◌≡◌, ◌≢◌, ◌↔◌, ℕ, zero, suc, ◌<◌, ◌≤◌, Bool, true, false, ◌&&◌, cond, List, [], ◌∷◌, length, get_or, refl, sym, ◌∙◌, ap, subst, arith}
 use Rattle.std.specs.Prelude.{nat_le, nat_eq, Contains}
 use Rattle.std.specs.List.{filter, AllWithin, IsDistinct}
 use Rattle.std.specs.List.Sorted.{IsStrictlyIncreasing, IsNonDecreasing, IsPartitionPoint}
-use Rattle.std.specs.Set.{is_member}
+use Rattle.std.specs.Set.{is_member, unique_keys}
 use Rattle.std.specs.Cmp.{unsigned_Decides}
 use Rattle.std.proofs.lemmas.Cmp.{nat_eq_equiv}
 use Rattle.std.proofs.lemmas.Bool.Decides.{nat_tests, same_from_decides}
@@ -85,3 +85,50 @@ some_passes p (x ∷ xs) n (suc k) t l e = by (p x) (some_passes p xs n k t (ome
 pub dense_within : (nodes : List ℕ) (n : ℕ) → Contains nodes n → (1 ≤ length (filter (λ m. nat_le m n) nodes)) × (length (filter (λ m. nat_le m n) nodes) ≤ length nodes)
 dense_within nodes n c =
     (some_passes (λ m. nat_le m n) nodes n c.0 (at_most n n refl) c.1 c.2, filter-le (λ m. nat_le m n) nodes)
+
+and_true : (b : Bool) → (b && true) ≡ b
+and_true true = refl
+and_true false = refl
+
+-- of the written numbers, those that pass a test have no more that differ
+fewer_different : (p : ℕ → Bool) (xs : List ℕ) → different (filter p xs) ≤ different xs
+fewer_different p [] = omega arith
+fewer_different p (x ∷ xs) = by (p x) refl (fewer_different p xs)
+  where
+    same : (q y : ℕ) → nat_eq q y ≡ true → p q ≡ p y
+    same q y e = ap p ((unsigned_Decides q y).0 e)
+
+    -- how many differ, by whether x is among the others
+    many : Bool → List ℕ → ℕ
+    many b us = length (cond b (unique_keys nat_eq us) (x ∷ unique_keys nat_eq us))
+
+    one_more : (b : Bool) (us vs : List ℕ) → different us ≤ different vs → many b us ≤ many b vs
+    one_more true us vs h = h
+    one_more false us vs h = omega (arith, h)
+
+    others : (b : Bool) (us vs : List ℕ) → different us ≤ different vs → different us ≤ many b vs
+    others true us vs h = h
+    others false us vs h = omega (arith, h)
+
+    by : (b : Bool) → p x ≡ b → different (filter p xs) ≤ different xs → different (cond b (x ∷ filter p xs) (filter p xs)) ≤ different (x ∷ xs)
+    by false e h = others (is_member nat_eq xs x) (filter p xs) xs h
+    by true e h =
+        let known : is_member nat_eq (filter p xs) x ≡ is_member nat_eq xs x =
+        is_member-filter nat_eq_equiv p x (λ y d. same x y d) xs ∙ ap (λ b. is_member nat_eq xs x && b) e ∙ and_true (is_member nat_eq xs x)
+        in
+        subst (λ b. many b (filter p xs) ≤ different (x ∷ xs)) (sym known) (one_more (is_member nat_eq xs x) (filter p xs) xs h)
+
+some_different : (xs : List ℕ) → 1 ≤ length xs → 1 ≤ different xs
+some_different [] l = absurd (omega arith)
+some_different (x ∷ []) l = omega arith
+some_different (x ∷ y ∷ xs) l = by (is_member nat_eq (y ∷ xs) x) refl (some_different (y ∷ xs) (omega arith))
+  where
+    by : (b : Bool) → is_member nat_eq (y ∷ xs) x ≡ b → 1 ≤ different (y ∷ xs) → 1 ≤ different (x ∷ y ∷ xs)
+    by true e h = rw e h
+    by false e h = rw e (omega arith)
+
+pub dense_in : (written : List ℕ) (n : ℕ) → Contains written n → (1 ≤ dense written n) × (dense written n ≤ different written)
+dense_in written n c = (
+  some_different (filter (λ m. nat_le m n) written) (some_passes (λ m. nat_le m n) written n c.0 (at_most n n refl) c.1 c.2),
+  fewer_different (λ m. nat_le m n) written,
+)

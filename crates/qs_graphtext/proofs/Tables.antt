@@ -1,11 +1,13 @@
--- The grammar of graphs has no empty part, and the table says with which sorts each may begin.
+-- The grammar of graphs has no empty part, the table says with which sorts each may begin, and the next token tells how to go on.
 use Rattle.std.proofs.Common.{◌≡◌, ℕ, ◌+◌, Bool, true, false, refl, sym, ◌∙◌, ap, subst, List, [], ◌∷◌, ◌++◌, length, arith, Result}
 use Rattle.std.specs.Prelude.{IfErr, IsErrAnd}
 use Rattle.std.proofs.lemmas.Result.{err_from_is_err_and}
 use Rattle.qs_lex.specs.declared.token.Token.{Token}
-use Rattle.qs_lex.specs.Grammar.{Sort, Form, one}
-use Rattle.qs_lex.specs.Expecting.{nullable, first, starts, NextIsNo, Refuse, may_end, Leads}
+use Rattle.qs_lex.specs.Grammar.{Sort, opening, Form, one}
+use Rattle.qs_lex.specs.Expecting.{same_sort, starts, NextIsNo, Refuse, may_end, Leads}
 use Rattle.qs_lex.proofs.Expected.{IsTable}
+use Rattle.qs_lex.proofs.Predictive.{IsPredicted}
+use Rattle.qs_lex.proofs.Predicting.{is_good, predicted}
 use Rattle.qs_lex.proofs.Going.{leads_token, stops_here, stops_behind}
 use Rattle.qs_ruletext.specs.declared.cursor.Halt.{Halt}
 use Rattle.qs_ruletext.specs.declared.cursor.Halt.TheVariants.{Syntax, Memory}
@@ -13,18 +15,22 @@ use Rattle.qs_ruletext.specs.Cursors.{IsNext}
 use Rattle.qs_graphtext.specs.Grammar.{Part, graph, chain, plain, line}
 use Rattle.qs_graphtext.specs.Readers.{table, Readable, Ends}
 
-begins : (p : Part) (k : Sort) → first table (line p) k ≡ true → table p k ≡ true
-begins graph k e = e
-begins chain k e = e
-begins plain k e = e
+-- with which sorts a whole part may go on
+abbrev pub more : Part → Sort → Bool
+more graph k = false
+more chain k = false
+more plain k = same_sort opening k
 
-never_empty : (p : Part) → nullable (line p) ≡ false
-never_empty graph = refl
-never_empty chain = refl
-never_empty plain = refl
+good : (p : Part) → is_good line table more p ≡ true
+good graph = refl
+good chain = refl
+good plain = refl
+
+pub all_ok : IsPredicted line table more
+all_ok = predicted line table more good
 
 pub ok : IsTable line table
-ok = record { begins = begins; never_empty = never_empty }
+ok = all_ok.table_is
 
 -- what fails for a sort fails for the next token, which is of it
 pub next_is_no : (p : Sort → Bool) (s : Sort) (ts rest : List Token) → p s ≡ false → IsNext s ts rest → NextIsNo p ts

@@ -1,6 +1,6 @@
 //! Laws of graphs of chains, over their definitions alone.
 
-ghost use Rattle.std.specs.Prelude.{◌≡◌, ℕ, ◌+◌, ◌≤◌, List, [], ◌++◌, length, map};
+ghost use Rattle.std.specs.Prelude.{◌≡◌, ◌⊎◌, ℕ, ◌+◌, ◌<◌, ◌≤◌, List, [], ◌++◌, length, map};
 ghost use Rattle.qs_lex.specs.declared.token.Token.{Token};
 ghost use Rattle.qs_lex.specs.Tokens.{Reads, AreTokensOf};
 ghost use Rattle.qs_tree.specs.Lists.{◌∈◌};
@@ -9,9 +9,16 @@ ghost use Rattle.qs_tree.specs.Text.{IsNamed};
 ghost use Rattle.qs_graph.specs.Graphs.{QGraph, IsValid};
 ghost use Rattle.qs_ruletext.specs.Written.{AreOnOneLine};
 ghost use Rattle.qs_graphtext.specs.WrittenChains.{WrittenChain};
-ghost use Rattle.qs_graphtext.specs.GraphOfChains.{trees_in, graph_of};
+ghost use Rattle.qs_graphtext.specs.GraphOfChains.{IsWhole, trees_in, graph_of, AreFew, AreRefused};
+ghost use Rattle.qs_graphtext.specs.declared.chain_end.ChainEnd.{ChainEnd};
 ghost use Rattle.qs_graphtext.specs.Texts.{AreArcsNamed, graph_text};
 ghost use Rattle.qs_graphtext.specs.ChainsOfArcs.{ReadsBack};
+
+/// Chains of which there is one and each is whole make a valid graph of at most 65,536 arcs, or they are refused for a cause.
+pub fn chains_make_a_graph_or_are_refused()
+    ensures { (chains : List WrittenChain) → 0 < length chains → ((chain : WrittenChain) → chain ∈ chains → IsWhole chain)
+        → (AreFew chains × IsValid (graph_of chains)) ⊎ ((end : ChainEnd) × (end ≡ ChainEnd.Memory → ⊥) × AreRefused chains end) }
+{}
 
 /// The trees on the arcs of a graph of chains are the trees of the chains, in their order.
 pub fn trees_stay()

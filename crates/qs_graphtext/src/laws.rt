@@ -2,7 +2,10 @@
 
 ghost use Rattle.std.specs.Prelude.{◌≡◌, ℕ, ◌<◌, List, length};
 ghost use Rattle.qs_lex.specs.declared.token.Token.{Token};
+ghost use Rattle.std.specs.List.{All};
+ghost use Rattle.qs_lex.specs.Tokens.{IsTokenOf};
 ghost use Rattle.qs_lex.specs.Grammar.{part, IsWhole};
+ghost use Rattle.qs_ruletext.specs.Names.{NamesGrow};
 ghost use Rattle.qs_tree.specs.Names.{AreDistinct};
 ghost use Rattle.qs_graphtext.specs.WrittenChains.{WrittenChain};
 ghost use Rattle.qs_graphtext.specs.Grammar.{graph, line};
@@ -13,6 +16,12 @@ ghost use Rattle.qs_graphtext.specs.Reading.{ReadsGraph, IsByteOf};
 /// Law: the tokens that are read as a graph are a graph by the grammar.
 pub fn what_is_read_is_whole()
     ensures { (names : List (List ℕ)) (text : List ℕ) (tokens : List Token) (chains : List WrittenChain) (rest : List Token) → ReadsGraph names text tokens chains rest → IsWhole line (part graph) tokens rest }
+{}
+
+/// Law: the tokens that are a graph by the grammar are read as one, in names that have grown by the tokens.
+pub fn what_is_whole_is_read()
+    ensures { (text : List ℕ) (tokens rest : List Token) (old names : List (List ℕ)) → All (IsTokenOf text) tokens → NamesGrow text tokens old names
+        → IsWhole line (part graph) tokens rest → (chains : List WrittenChain) × ReadsGraph names text tokens chains rest }
 {}
 
 /// Law: what is read as a graph makes one: there is a chain, each has a tree and a byte for each of its trees, and each of

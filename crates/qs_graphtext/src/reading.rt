@@ -1,15 +1,16 @@
 //! Chains and graphs, read from tokens.
 
-ghost use Rattle.std.specs.Prelude.{◌≡◌, ℕ, ◌^◌, ◌+◌, ◌<◌, ◌≤◌, IfOk, IfErr, [], ◌∷◌, length, drop, IsTrue, IsFalse};
+ghost use Rattle.std.specs.Prelude.{◌≡◌, ℕ, ◌^◌, ◌+◌, ◌<◌, ◌≤◌, List, IfOk, IfErr, IsErr, [], ◌∷◌, length, drop, IsTrue, IsFalse};
+ghost use Rattle.qs_lex.specs.declared.token.Token.{Token};
 ghost use Rattle.qs_lex.specs.Tokens.{AreTokensOf};
 ghost use Rattle.qs_lex.specs.Nesting.{IsTooDeep};
-ghost use Rattle.qs_lex.specs.Grammar.{a_node_mark, opening, plus, part, repeated};
+ghost use Rattle.qs_lex.specs.Grammar.{a_node_mark, opening, plus, part, repeated, IsWhole};
 ghost use Rattle.qs_lex.specs.Expecting.{same_sort, NextIsNo};
 ghost use Rattle.qs_ruletext.specs.Rules.{KeepsNames, between};
 ghost use Rattle.qs_ruletext.specs.Names.{NamesGrow};
-ghost use Rattle.qs_graphtext.specs.Grammar.{chain, graph};
+ghost use Rattle.qs_graphtext.specs.Grammar.{chain, graph, line};
 ghost use Rattle.qs_graphtext.specs.Reading.{ReadsTrees, ReadsChain, ReadsChains, ReadsGraph, AreNamed};
-ghost use Rattle.qs_graphtext.specs.Refusals.{EndsFrom};
+ghost use Rattle.qs_graphtext.specs.Refusals.{CannotGoOn, EndsFrom};
 ghost use Rattle.qs_graphtext.specs.Readers.{Readable, IsRead, Ends, IsNextMark, NextIsMark, plains_with};
 
 use crate::chain::Chain;
@@ -163,6 +164,10 @@ pub fn read_chains(
     ensures read { IfOk result (λ found. ReadsGraph names.new text.now (drop from tokens.now) found.0.items (drop found.1 tokens.now)) }
     ensures behind { IfOk result (λ found. (from < found.1) × (found.1 ≤ length tokens.now)) }
     ensures ends { IfErr result (EndsFrom tokens.now from) }
+
+    // Tokens that can't go on to a graph are refused, and a whole graph is read, if memory lasts.
+    ensures faulty { (at : ℕ) → CannotGoOn tokens.now from at → IsErr result }
+    ensures faultless { (rest : List Token) → IsWhole line (part graph) (drop from tokens.now) rest → IfErr result (λ end. end ≡ TextEnd.Memory) }
 
     // The labels.
     ensures keeps { KeepsNames names.old names.new }

@@ -30,7 +30,6 @@ pub record IsStuck {Part : Type 0} (line : Grammar Part) (f : Form Part) (ts : L
   pub passed : List Token
   pub rest : List Token
   pub are : ts ≡ passed ++ rest
-  pub some : passed ≢ []
   pub begins : Begins line f passed
   pub not_whole : IsWhole line f passed [] → ⊥
   pub no_further : (t : Token) (us : List Token) → rest ≡ t ∷ us → Begins line f (passed ++ t ∷ []) → ⊥
@@ -85,8 +84,9 @@ module _ {Part : Type 0} {line : Grammar Part} (table more : Part → Sort → B
         let whole : IsWhole line f p.front [] = subst (λ us. IsWhole line f us []) (append-nil p.front) (p.whole []) in
         begins_none p.front m (λ e. not_empty (subst (λ us. IsWhole line f us []) e whole)) p.are (whole_begins whole refl) none
 
-    pub not_stuck : {ts m n : List Token} → IsWhole line (repeated f) ts m → NoneBegins line f m → IsWhole line (repeated f) ts n → IsStuck line f n → ⊥
-    not_stuck no_more none no_more s = begins_none s.passed s.rest s.some s.are s.begins none
-    not_stuck no_more none (one_more w v) s = none_whole none w
-    not_stuck (one_more w v) none no_more s = stuck_not_whole s w
-    not_stuck {n} (one_more w v) none (one_more x y) s = not_stuck v none (subst (λ us. IsWhole line (repeated f) us n) (one_whole x w) y) s
+    pub not_stuck : {ts m n : List Token} → IsWhole line (repeated f) ts m → NoneBegins line f m → IsWhole line (repeated f) ts n → (s : IsStuck line f n) → s.passed ≢ [] → ⊥
+    not_stuck no_more none no_more s past = begins_none s.passed s.rest past s.are s.begins none
+    not_stuck no_more none (one_more w v) s past = none_whole none w
+    not_stuck (one_more w v) none no_more s past = stuck_not_whole s w
+    not_stuck {m} {n} (one_more w v) none (one_more x y) s past =
+        not_stuck v none (subst (λ us. IsWhole line (repeated f) us n) (one_whole x w) y) s past

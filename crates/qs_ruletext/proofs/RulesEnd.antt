@@ -12,13 +12,12 @@ use Rattle.qs_ruletext.proofs.Tables.{more, all_ok}
 use Rattle.qs_ruletext.proofs.Between.{next_at, between_drop, some_between}
 use Rattle.qs_ruletext.proofs.OneRules.{no_rule_from}
 
-stuck : (tokens : List Token) (from at : ℕ) (c : CannotGoOn tokens from at) → IsStuck line (part rule) (drop c.begun tokens)
+abbrev stuck : (tokens : List Token) (from at : ℕ) (c : CannotGoOn tokens from at) → IsStuck line (part rule) (drop c.begun tokens)
 stuck tokens from at c =
     record {
       passed = between tokens c.begun at;
       rest = drop at tokens;
       are = sym (between_drop tokens c.begun at (omega (arith, c.some)));
-      some = some_between tokens c.begun at c.some c.within;
       begins = c.begins;
       not_whole = c.not_whole;
       no_further = λ t us e b. c.no_further t (next_at tokens us at t e) b;
@@ -27,6 +26,7 @@ stuck tokens from at c =
 pub not_both_ends : (tokens : List Token) (from to at : ℕ) → IsWhole line (repeated (part rule)) (drop from tokens) (drop to tokens) → NoRuleAt tokens to → CannotGoOn tokens from at → ⊥
 not_both_ends tokens from to at whole none c =
     not_stuck table more all_ok (part rule) tt (λ k. refl) refl whole ((no_rule_from tokens to).0 none) c.whole (stuck tokens from at c)
+    (some_between tokens c.begun at c.some c.within)
 
 pub only_memory : (tokens : List Token) (from : ℕ) (end : TextEnd) → EndsFrom tokens from end → ((at : ℕ) → CannotGoOn tokens from at → ⊥) → end ≡ Memory
 only_memory tokens from (Syntax at) e none = absurd (none at e)

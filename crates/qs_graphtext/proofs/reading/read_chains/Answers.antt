@@ -5,6 +5,8 @@ use Rattle.qs_ruletext.proofs.Naming.{names_between}
 use Rattle.qs_graphtext.specs.Reading.{ReadsGraph}
 use Rattle.qs_graphtext.specs.Readers.{Readable}
 use Rattle.qs_graphtext.proofs.Places.{readable, rest_of, stops_at, left_within, cannot_go_on, graph_named}
+use Rattle.qs_graphtext.proofs.Whole.{graph_whole}
+use Rattle.qs_graphtext.proofs.GraphEnd.{not_both_ends}
 use Rattle.qs_graphtext.proofs.reading.read_chains.Goals as goal
 
 pub graph-requires-clause-of_text : goal.graph-requires-clause-of_text
@@ -35,3 +37,9 @@ pub returns-in-Ok-clause-names : goal.returns-in-Ok-clause-names
 returns-in-Ok-clause-names c =
     names_between c.args.text.now c.args.tokens.now c.in-Ok.rest.now c.args.from c.args.names.now c.graph.new.names c.requires.within
     (subst (λ us. NamesGrowUpTo c.args.text.now us c.in-Ok.rest.now c.args.names.now c.graph.new.names) (take_rest c.args.tokens.now c.args.from) c.in-Ok.ensures.read.names)
+
+pub returns-in-Ok-clause-faulty : goal.returns-in-Ok-clause-faulty
+returns-in-Ok-clause-faulty c = λ at stops. absurd (not_both_ends c.args.tokens.now _ c.args.from at (graph_whole (returns-in-Ok-clause-read c)) stops)
+
+pub returns-in-Err-Syntax-clause-faultless : goal.returns-in-Err-Syntax-clause-faultless
+returns-in-Err-Syntax-clause-faultless c = λ rest whole. absurd (not_both_ends c.args.tokens.now rest c.args.from _ whole (returns-in-Err-Syntax-clause-ends c))
