@@ -1,5 +1,5 @@
 -- A rule that can be checked is accepted, or has a first cause why it isn't.
-use Rattle.std.proofs.Common.{◌≡◌, ◌⊎◌, ℕ, zero, suc, ◌+◌, ◌<◌, ◌≤◌, inl, inr, ⊎_elim, List, [], ◌∷◌, ◌++◌, length, take, get_or, Some, slice_get, refl, sym, ◌∙◌, ap, subst, arith, length-append}
+use Rattle.std.proofs.Common.{◌≡◌, ◌⊎◌, ℕ, zero, suc, ◌+◌, ◌<◌, ◌≤◌, inl, inr, ⊎_elim, List, [], ◌∷◌, length, take, get_or, Some, slice_get, refl, sym, ◌∙◌, ap, subst, arith, length-append}
 use Rattle.std.proofs.lemmas.Bool.{cases_lt}
 use Rattle.std.proofs.lemmas.List.{take_all}
 use Rattle.std.proofs.lemmas.Option.{slice_get-get_or}
@@ -13,7 +13,7 @@ use Rattle.qs_pattern.specs.declared.pattern.Head.{Head}
 use Rattle.qs_pattern.specs.declared.pattern.Head.TheVariants as head
 use Rattle.qs_pattern.specs.Variables.{firsts}
 use Rattle.qs_pattern.specs.Patterns.{Patterns, no_pattern, node_first, tree_var_first, forest_var_first, count, cells, head_variables, variables_in}
-use Rattle.qs_pattern.specs.Rules.{Rule, IsAccepted, rule_cells, rule_variables, variables_behind}
+use Rattle.qs_pattern.specs.Rules.{IsAccepted, rule_cells, rule_variables, variables_behind}
 use Rattle.qs_pattern.proofs.MatchDecisions.{decide_var}
 use Rattle.qs_pattern.proofs.VariableLemmas.{from_firsts, in_firsts}
 use Rattle.qs_ruletext.specs.Reading.{joined}

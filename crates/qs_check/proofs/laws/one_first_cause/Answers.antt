@@ -1,4 +1,5 @@
 use Rattle.qs_check.proofs.Limits as limits
+use Rattle.qs_check.proofs.EachRule.{rule_decided}
 use Rattle.qs_check.proofs.laws.one_first_cause.Goals as goal
 
 pub returns-clause-one_cause : goal.returns-clause-one_cause
@@ -9,3 +10,6 @@ returns-clause-one_place c = λ rule d e i j a b. (limits.one_cause rule d e i j
 
 pub returns-clause-none_if_accepted : goal.returns-clause-none_if_accepted
 returns-clause-none_if_accepted c = limits.none_if_accepted
+
+pub returns-clause-some : goal.returns-clause-some
+returns-clause-some c = λ raw can. rule_decided raw can
