@@ -1,20 +1,16 @@
 -- Each text means a deck or has a first fault.
-use Rattle.std.proofs.Common.{◌≡◌, ◌≢◌, ◌⊎◌, ℕ, zero, suc, ◌+◌, ◌-◌, ◌<◌, ◌≤◌, Bool, true, false, refl, sym, ◌∙◌, ap, subst, inl, inr, ⊎_elim, Option, Some, None, List, [], ◌∷◌, ◌++◌, length, map, take, drop, slice_get, arith, length-append}
-use Rattle.std.specs.Str.{IsUtf8}
+use Rattle.std.proofs.Common.{◌≡◌, ◌⊎◌, ℕ, zero, suc, ◌-◌, ◌<◌, Bool, true, false, refl, sym, ◌∙◌, ap, subst, inl, inr, ⊎_elim, Some, List, [], ◌∷◌, length, map, slice_get, arith, length-append}
+use Rattle.std.specs.Str.{IsUtf8, is_utf8}
 use Rattle.std.specs.Str.Lossy.{utf8_valid_len}
 use Rattle.std.specs.List.{All}
 use Rattle.std.proofs.lemmas.Bool.{cases_lt, false≢true}
-use Rattle.std.proofs.lemmas.Option.{slice_get_within}
 use Rattle.std.proofs.lemmas.List.Elements.{All-nil, All-cons, All-head, All-tail}
 use Rattle.std.proofs.lemmas.Str.{IsUtf8-from_is_utf8, is_utf8-from_IsUtf8}
-use Rattle.qs_tree.specs.Lists.{◌∈◌}
-use Rattle.qs_tree.specs.declared.cell.Label.{Label}
 use Rattle.qs_lex.specs.declared.token.Token.{Token}
 use Rattle.qs_lex.specs.declared.refusal.Cause.{Cause}
 use Rattle.qs_lex.specs.declared.refusal.Cause.TheVariants.{NotUtf8, TooDeep, Syntax, TooManySystems, TooManyArcs, Cycle, Entries, Exits}
 use Rattle.qs_lex.specs.declared.refusal.Refusal.{Refusal}
 use Rattle.qs_lex.specs.Tokens.{AreTokensOf}
-use Rattle.qs_lex.specs.Nesting.{IsTooDeep}
 use Rattle.qs_lex.specs.Places.{line_of, column_of}
 use Rattle.qs_lex.specs.Grammar.{part, IsWhole}
 use Rattle.qs_lex.specs.Expecting.{Stops}
@@ -24,10 +20,10 @@ use Rattle.qs_lex.proofs.OpenParentheses.{first_too_deep}
 use Rattle.qs_pattern.specs.Rules.{IsAccepted}
 use Rattle.qs_ruletext.specs.WrittenRules.{WrittenRule}
 use Rattle.qs_check.specs.declared.checking.CheckEnd.TheVariants.{Refused}
-use Rattle.qs_check.specs.Checking.{CanBeChecked, EndsWith}
+use Rattle.qs_check.specs.Checking.{CanBeChecked}
 use Rattle.qs_check.proofs.EachRule.{rule_accepted_or_refused}
-use Rattle.qs_graph.specs.Graphs.{QGraph, IsValid}
-use Rattle.qs_graphtext.specs.GraphOfChains.{AreFew, AreRefused, graph_of}
+use Rattle.qs_graph.specs.Graphs.{QGraph}
+use Rattle.qs_graphtext.specs.GraphOfChains.{AreRefused, graph_of}
 use Rattle.qs_graphtext.specs.declared.chain_end.ChainEnd.{ChainEnd}
 use Rattle.qs_graphtext.specs.declared.chain_end.ChainEnd.TheVariants as chain_end
 use Rattle.qs_graphtext.proofs.ChainDecisions.{chains_decided}
@@ -36,7 +32,7 @@ use Rattle.qs_deck.specs.Grammar.{deck, line}
 use Rattle.qs_deck.specs.Syntax.{CannotGoOn}
 use Rattle.qs_deck.specs.Checks.{IsChecked, IsCheckFault, too_many_systems, rule_not_accepted}
 use Rattle.qs_deck.specs.Decks.{Grammar, meaning_of, HasTokens, IsWritten, IsDeckOf}
-use Rattle.qs_deck.specs.Refusals.{IsFirstTooDeep, IsGraphFault, too_many_arcs, cycle, entries, exits, byte_of, IsFault, bytes, tokens, nesting, syntax, check, graph, IsRefusalOf}
+use Rattle.qs_deck.specs.Refusals.{IsGraphFault, too_many_arcs, cycle, entries, exits, byte_of, IsFault, bytes, tokens, nesting, syntax, check, graph, IsRefusalOf}
 use Rattle.qs_deck.proofs.Meanings as meaning
 use Rattle.qs_ruletext.specs.Grammar as rules
 use Rattle.qs_graphtext.specs.Grammar as graphs
@@ -50,7 +46,7 @@ use Rattle.qs_deck.proofs.WholeRead.{whole_is_read}
 -- ---- syntax
 
 -- each part begins with a token, or with parts of lower ranks
-rank : Part → ℕ
+abbrev rank : Part → ℕ
 rank deck = 1
 rank system = 0
 rank (of_rules rules.rule) = 2
@@ -113,14 +109,18 @@ rules_decided (raw ∷ raws) can =
     ⊎_elim
     (λ good. ⊎_elim
     (λ others. inl (All-cons (λ r. IsAccepted r.rule) raw raws good others))
-    (λ f. inr (f.0, f.1, record {
-      front = raw ∷ f.2.front;
-      raw = f.2.raw;
-      behind = f.2.behind;
-      are = ap (λ rs. raw ∷ rs) f.2.are;
-      accepted = All-cons (λ r. IsAccepted r.rule) raw f.2.front good f.2.accepted;
-      ends = f.2.ends;
-    }))
+    (λ f. inr (
+      f.0,
+      f.1,
+      record {
+        front = raw ∷ f.2.front;
+        raw = f.2.raw;
+        behind = f.2.behind;
+        are = ap (λ rs. raw ∷ rs) f.2.are;
+        accepted = All-cons (λ r. IsAccepted r.rule) raw f.2.front good f.2.accepted;
+        ends = f.2.ends;
+      },
+    ))
     (rules_decided raws (All-tail CanBeChecked raw raws can)))
     (λ c. inr (c.0, c.1, record { front = []; raw = raw; behind = raws; are = refl; accepted = All-nil (λ r. IsAccepted r.rule); ends = c.2 }))
     (rule_accepted_or_refused raw (All-head CanBeChecked raw raws can))
@@ -161,15 +161,20 @@ of_written text names d w = ⊎_elim checked (λ f. inr (f.0, f.1, check names d
     checked : IsChecked d → IsDecided text
     checked good =
         ⊎_elim
-        (λ made. inl (names, map meaning_of d.systems, graph_of d.chains, record {
-          written = d;
-          is_written = w;
-          checked = good;
-          few = made.0;
-          valid = made.1;
-          grammars_are = refl;
-          graph_is = refl;
-        }))
+        (λ made. inl (
+          names,
+          map meaning_of d.systems,
+          graph_of d.chains,
+          record {
+            written = d;
+            is_written = w;
+            checked = good;
+            few = made.0;
+            valid = made.1;
+            grammars_are = refl;
+            graph_is = refl;
+          },
+        ))
         (λ r. let f = graph_refused d r.0 r.1 r.2 in inr (f.0, f.1, graph names d w good f.2))
         (chains_decided d.chains (meaning.chains_some text names d w) (meaning.chains_whole text names d w))
 

@@ -1,11 +1,10 @@
 -- The grammar of decks has no empty part, the table says with which sorts each may begin, and the next token tells how to go on.
-use Rattle.std.proofs.Common.{◌≡◌, Bool, true, false, ◌||◌, refl, sym, ◌∙◌, ap, subst, List, [], ◌∷◌, Result}
+use Rattle.std.proofs.Common.{◌≡◌, Bool, true, false, refl, sym, ◌∙◌, ap, subst, List, [], ◌∷◌, Result}
 use Rattle.std.specs.Prelude.{IfErr, IsErrAnd}
 use Rattle.std.proofs.lemmas.Result.{err_from_is_err_and}
 use Rattle.qs_lex.specs.declared.token.Token.{Token}
-use Rattle.qs_lex.specs.declared.token.Word.TheVariants.{Et, Ou}
-use Rattle.qs_lex.specs.Grammar.{Sort, the_word, opening, comma, plus, Form, one, renamed}
-use Rattle.qs_lex.specs.Expecting.{starts, same_sort, Apart, NextIsNo, may_end, Leads}
+use Rattle.qs_lex.specs.Grammar.{Sort, Form, one, renamed}
+use Rattle.qs_lex.specs.Expecting.{starts, Apart, NextIsNo, may_end, Leads}
 use Rattle.qs_lex.proofs.Expected.{IsTable}
 use Rattle.qs_lex.proofs.Going.{leads_token}
 use Rattle.qs_lex.proofs.Predictive.{IsPredicted}

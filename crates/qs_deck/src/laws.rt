@@ -1,16 +1,17 @@
 //! Laws of decks, over their definitions alone.
 
-ghost use Rattle.std.specs.Prelude.{◌≡◌, ℕ, List};
+ghost use Rattle.std.specs.Prelude.{◌≡◌, ◌⊎◌, ℕ, List};
 ghost use Rattle.qs_lex.specs.declared.refusal.Refusal.{Refusal};
 ghost use Rattle.qs_graph.specs.Graphs.{QGraph};
 ghost use Rattle.qs_deck.specs.Decks.{Grammar, IsDeckOf};
 ghost use Rattle.qs_deck.specs.Refusals.{IsRefusalOf};
 ghost use Rattle.qs_deck.specs.Texts.{deck_text};
 
-/// A text has at most one meaning or one first fault, and not both.
+/// A text has one meaning or one first fault, and not both.
 pub fn one_answer()
     ensures deck { (text : List ℕ) (names others : List (List ℕ)) (grammars more : List Grammar) (G H : QGraph) → IsDeckOf text names grammars G → IsDeckOf text others more H → (names ≡ others) × (grammars ≡ more) × (G ≡ H) }
     ensures refusal { (text : List ℕ) (r s : Refusal) → IsRefusalOf text r → IsRefusalOf text s → r ≡ s }
+    ensures some { (text : List ℕ) → ((names : List (List ℕ)) × (grammars : List Grammar) × (G : QGraph) × IsDeckOf text names grammars G) ⊎ ((r : Refusal) × IsRefusalOf text r) }
     ensures not_both { (text : List ℕ) (names : List (List ℕ)) (grammars : List Grammar) (G : QGraph) (r : Refusal) → IsDeckOf text names grammars G → IsRefusalOf text r → ⊥ }
 {}
 

@@ -1,4 +1,5 @@
 use Rattle.qs_deck.proofs.OneFault as one
+use Rattle.qs_deck.proofs.EachText.{each_text}
 use Rattle.qs_deck.proofs.laws.one_answer.Goals as goal
 
 pub returns-clause-deck : goal.returns-clause-deck
@@ -9,3 +10,6 @@ returns-clause-refusal c = λ text r s a b. one.one_refusal a b
 
 pub returns-clause-not_both : goal.returns-clause-not_both
 returns-clause-not_both c = λ text names grammars G r a b. one.not_both a b
+
+pub returns-clause-some : goal.returns-clause-some
+returns-clause-some c = each_text

@@ -29,3 +29,6 @@ returns-clause-read c =
     c.requires.within c.in_ok-word.ensures.heading refl c.in_ok-name.ensures.label c.in_ok-name.ensures.few
     c.read_rules.ensures.keeps c.in_ok-rules.ensures.read c.in_ok-rules.ensures.place c.in_ok-rules.ensures.behind c.in_ok-rules.ensures.few
     c.in_ok-name.ensures.adds c.in_ok-rules.ensures.names
+
+pub returns-in_err-rules-clause-keeps : goal.returns-in_err-rules-clause-keeps
+returns-in_err-rules-clause-keeps c = λ k text there. c.read_rules.ensures.keeps k text (c.label_of.ensures.keeps k text there)
