@@ -2,6 +2,7 @@ pub mod NodesFew
 pub mod GoingOn
 pub mod Starting
 pub mod OneDefinition
+pub mod EachDefinition
 pub mod OptionLemmas
 pub mod CommandLemmas
 pub mod ReadWords

@@ -20,9 +20,10 @@ pub fn one_outcome()
     one_cascade();
 }
 
-/// For a given job and given bytes one text is defined at most, with one status.
+/// For each job and all bytes one text is defined, with one status.
 pub fn one_definition()
-    ensures { (job : Job) (bytes t u : List ℕ) (s r : Status) → IsDefined job bytes t s → IsDefined job bytes u r → (t ≡ u) × (s ≡ r) }
+    ensures some { (job : Job) (bytes : List ℕ) → (text : List ℕ) × (status : Status) × IsDefined job bytes text status }
+    ensures one { (job : Job) (bytes t u : List ℕ) (s r : Status) → IsDefined job bytes t s → IsDefined job bytes u r → (t ≡ u) × (s ≡ r) }
 {
     one_answer();
     one_outcome();

@@ -1,5 +1,9 @@
 use Rattle.qsys.proofs.OneDefinition.{same_definition}
+use Rattle.qsys.proofs.EachDefinition.{some_definition}
 use Rattle.qsys.proofs.defined_laws.one_definition.Goals as goal
 
-pub returns : goal.returns
-returns c = same_definition c.one_outcome.ensures (record { deck = c.one_answer.ensures.deck; refusal = c.one_answer.ensures.refusal; not_both = c.one_answer.ensures.not_both })
+pub returns-clause-some : goal.returns-clause-some
+returns-clause-some c = some_definition c.one_answer.ensures.some
+
+pub returns-clause-one : goal.returns-clause-one
+returns-clause-one c = same_definition c.one_outcome.ensures (record { deck = c.one_answer.ensures.deck; refusal = c.one_answer.ensures.refusal; not_both = c.one_answer.ensures.not_both })
