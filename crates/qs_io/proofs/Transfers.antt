@@ -1,8 +1,10 @@
 -- What the loops over a source and over a sink keep.
-use Rattle.std.proofs.Common.{◌≡◌, ℕ, ◌+◌, ◌-◌, ◌≤◌, List, ◌++◌, length, take, drop, Option, None, Some, refl, sym, ◌∙◌, ap, arith, append_assoc, length-append, length-drop, take-append-drop}
+use Rattle.std.proofs.Common.{◌≡◌, false, ℕ, ◌+◌, ◌-◌, ◌<◌, ◌≤◌, List, [], ◌∷◌, ◌++◌, length, take, drop, Option, None, Some, refl, sym, ◌∙◌, ap, arith, append_assoc, length-append, length-drop, take-append-drop}
+use Rattle.std.specs.Bool.{◌==◌}
+use Rattle.std.proofs.lemmas.Bool.{false≢true}
 use Rattle.std.proofs.lemmas.List.{length-take-le, take_at, take_all}
 use Rattle.std.specs.Io.KnownBytes.{append_known, prepend_known}
-use Rattle.qs_io.specs.Devices.{AppendsPrefix, TakesBytes}
+use Rattle.qs_io.specs.Devices.{AppendsProperPrefix, TakesBytes}
 
 -- of these bytes all but the rest was appended
 pub record AppendsUpTo (old new : Option (List ℕ)) (bytes rest : List ℕ) : Type 0 where
@@ -32,9 +34,15 @@ TakesBytes-more old mid new text room n total before now within in_all =
       length-append text (take n room) ∙ omega arith,
     )
 
--- what was appended before a write that fails is a prefix
-pub AppendsPrefix-from_AppendsUpTo : {old mid new : Option (List ℕ)} {bytes rest : List ℕ} → AppendsUpTo old mid bytes rest → new ≡ mid → AppendsPrefix old new bytes
-AppendsPrefix-from_AppendsUpTo {old} {bytes = bytes} {rest = rest} so_far stays =
+-- bytes of which it is known that they aren't empty
+pub some_left : (rest : List ℕ) → false ≡ (length rest == 0) → 0 < length rest
+some_left [] none = absurd (false≢true none)
+some_left (first ∷ rest) some = omega arith
+
+-- what was appended before a write that fails is a proper prefix, since that write was given some bytes
+pub AppendsProperPrefix-from_AppendsUpTo : {old mid new : Option (List ℕ)} {bytes rest : List ℕ}
+    → AppendsUpTo old mid bytes rest → 0 < length rest → new ≡ mid → AppendsProperPrefix old new bytes
+AppendsProperPrefix-from_AppendsUpTo {old} {bytes = bytes} {rest = rest} so_far some stays =
     let is_prefix : take (length so_far.prefix) bytes ≡ so_far.prefix = rw so_far.split (take_at so_far.prefix rest (length so_far.prefix) refl) in
     let lengths : length bytes ≡ length so_far.prefix + length rest = ap length so_far.split ∙ length-append so_far.prefix rest in
     (length so_far.prefix, omega arith, stays ∙ so_far.written ∙ ap (λ (prefix : List ℕ). append_known old prefix) (sym is_prefix))

@@ -1,7 +1,7 @@
 -- What happens to a source or a sink between two moments. Whether it tells its bytes never changes, so an equation
 -- between optional lists says both: the bytes, where they are told, and that they are told now exactly where they
--- were told before. All three definitions are this project's own.
-use Rattle.std.specs.Prelude.{◌≡◌, ℕ, ◌+◌, ◌-◌, ◌^◌, ◌≤◌, min, List, length, take, Option}
+-- were told before. All is this project's own.
+use Rattle.std.specs.Prelude.{◌≡◌, ◌↔◌, ℕ, ◌+◌, ◌-◌, ◌^◌, ◌<◌, ◌≤◌, min, List, ◌++◌, length, take, Option}
 use Rattle.std.specs.Io.KnownBytes.{append_known, prepend_known}
 
 -- a count rose: it is greater than before, or it stands at the greatest u64
@@ -15,3 +15,14 @@ TakesBytes old new n = (bytes : List ℕ) × (old ≡ prepend_known bytes new) �
 -- a prefix of these bytes was appended to what was written to a sink
 abbrev pub AppendsPrefix : Option (List ℕ) → Option (List ℕ) → List ℕ → Type 0
 AppendsPrefix old new bytes = (n : ℕ) × (n ≤ length bytes) × (new ≡ append_known old (take n bytes))
+
+-- a proper prefix of them was: at least the last byte is missing
+abbrev pub AppendsProperPrefix : Option (List ℕ) → Option (List ℕ) → List ℕ → Type 0
+AppendsProperPrefix old new bytes = (n : ℕ) × (n < length bytes) × (new ≡ append_known old (take n bytes))
+
+-- at most so many bytes were given, and the call was cut short exactly where it was so many
+pub record Gives (old new : List ℕ) (most : ℕ) (IsCutShort : Type 0) : Type 0 where
+  pub bytes : List ℕ
+  pub given : new ≡ old ++ bytes
+  pub bound : length bytes ≤ most
+  pub cut_short : IsCutShort ↔ (length bytes ≡ most)

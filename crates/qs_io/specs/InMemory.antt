@@ -1,18 +1,20 @@
 -- Sources and sinks that hold their bytes in memory, as contracts see them. All is this project's own.
 use Rattle.std.specs.Prelude.{◌<◌, ℕ, ◌+◌, ◌-◌, ◌^◌, min, List, Contains}
 
--- a source that fails at some of its calls: the bytes that are left, the most bytes that one call gives, the numbers
--- of the calls that fail, how many calls were made and how many of them failed
+-- a source that fails at some of its calls: the bytes that are left, those that were given, the most bytes that one
+-- call gives, the numbers of the calls that fail, how many calls were made and how many of them failed
 pub record SourceState : Type 0 where
   pub left : List ℕ
+  pub given : List ℕ
   pub piece : ℕ
   pub failing : List ℕ
   pub calls : ℕ
   pub faults : ℕ
 
--- a source that never fails: the bytes that are left and the most bytes that one call gives
+-- a source that never fails: the bytes that are left, those that were given, and the most bytes that one call gives
 pub record SureSourceState : Type 0 where
   pub left : List ℕ
+  pub given : List ℕ
   pub piece : ℕ
 
 -- a sink: the bytes that were written, how many more it has room for, the most bytes that one call takes, the numbers

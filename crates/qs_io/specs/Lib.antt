@@ -1,3 +1,5 @@
 pub mod Devices
+pub mod Limits
 pub mod InMemory
 pub mod Standard
+pub mod TracedSinks

@@ -24,12 +24,12 @@ pub struct MemSource {
 }
 
 impl Model for MemSource {
-    ghost use Rattle.std.specs.Prelude.{◌≤◌, ◌<◌, drop, length};
+    ghost use Rattle.std.specs.Prelude.{◌≤◌, ◌<◌, drop, length, take};
     ghost use Rattle.qs_io.specs.InMemory.{SourceState};
 
     ghost Value = { SourceState };
 
-    ghost view = { λ s. record { left = drop s.taken s.bytes.items; piece = s.piece; failing = s.failing.items; calls = s.calls; faults = s.faults } };
+    ghost view = { λ s. record { left = drop s.taken s.bytes.items; given = take s.taken s.bytes.items; piece = s.piece; failing = s.failing.items; calls = s.calls; faults = s.faults } };
 
     ghost invariant = { λ s. (s.taken ≤ length s.bytes.items) × (0 < s.piece) × (s.faults ≤ s.calls) };
 }
@@ -40,7 +40,7 @@ impl MemSource {
     pub fn new(alloc: Global, bytes: Vec<u8>, piece: usize, failing: Vec<u64>) -> MemSource
         requires piece { 0 < piece }
         requires failing { IsStrictlyIncreasing failing.items }
-        ensures { result ≡ record { left = bytes.items; piece = piece; failing = failing.items; calls = 0; faults = 0 } }
+        ensures { result ≡ record { left = bytes.items; given = []; piece = piece; failing = failing.items; calls = 0; faults = 0 } }
     {
         MemSource {
             alloc,
@@ -71,6 +71,10 @@ impl MemSource {
 impl Source for MemSource {
     ghost left = { λ s. Some s.left };
 
+    ghost given = { λ s. s.given };
+
+    ghost has_ended = { λ s. s.left ≡ [] };
+
     ghost faults = { λ s. s.faults };
 
     fn read(&mut self, room: &mut [u8]) -> Result<usize, Failed>
@@ -81,7 +85,7 @@ impl Source for MemSource {
 
         ensures amount { IfOk result (λ n. n ≡ min (length room.new) (min self.old.piece (length self.old.left))) }
         ensures bytes { IfOk result (λ n. take n room.new ≡ take n self.old.left) }
-        ensures ok { IfOk result (λ n. self.new ≡ record self.old { left = drop n self.old.left; calls = calls_after self.old.calls }) }
+        ensures ok { IfOk result (λ n. self.new ≡ record self.old { left = drop n self.old.left; given = self.old.given ++ take n self.old.left; calls = calls_after self.old.calls }) }
         ensures end { IfOk result (λ n. n ≡ 0 → self.old.left ≡ []) }
     {
         let fails = fails_next(self.calls, &self.failing);
@@ -109,12 +113,12 @@ pub struct SureSource {
 }
 
 impl Model for SureSource {
-    ghost use Rattle.std.specs.Prelude.{◌≤◌, ◌<◌, drop, length};
+    ghost use Rattle.std.specs.Prelude.{◌≤◌, ◌<◌, drop, length, take};
     ghost use Rattle.qs_io.specs.InMemory.{SureSourceState};
 
     ghost Value = { SureSourceState };
 
-    ghost view = { λ s. record { left = drop s.taken s.bytes.items; piece = s.piece } };
+    ghost view = { λ s. record { left = drop s.taken s.bytes.items; given = take s.taken s.bytes.items; piece = s.piece } };
 
     ghost invariant = { λ s. (s.taken ≤ length s.bytes.items) × (0 < s.piece) };
 }
@@ -123,7 +127,7 @@ impl SureSource {
     /// Gives these bytes, at most `piece` of them at a call. Takes no memory.
     pub fn new(alloc: Global, bytes: Vec<u8>, piece: usize) -> SureSource
         requires { 0 < piece }
-        ensures { result ≡ record { left = bytes.items; piece = piece } }
+        ensures { result ≡ record { left = bytes.items; given = []; piece = piece } }
     {
         SureSource {
             alloc,
@@ -137,6 +141,10 @@ impl SureSource {
 impl Source for SureSource {
     ghost left = { λ s. Some s.left };
 
+    ghost given = { λ s. s.given };
+
+    ghost has_ended = { λ s. s.left ≡ [] };
+
     ghost faults = { λ _. 0 };
 
     fn read(&mut self, room: &mut [u8]) -> Result<usize, Failed>
@@ -144,7 +152,7 @@ impl Source for SureSource {
 
         ensures amount { IsOkAnd result (λ n. n ≡ min (length room.new) (min self.old.piece (length self.old.left))) }
         ensures bytes { IfOk result (λ n. take n room.new ≡ take n self.old.left) }
-        ensures ok { IfOk result (λ n. self.new ≡ record self.old { left = drop n self.old.left }) }
+        ensures ok { IfOk result (λ n. self.new ≡ record self.old { left = drop n self.old.left; given = self.old.given ++ take n self.old.left }) }
         ensures end { IfOk result (λ n. n ≡ 0 → self.old.left ≡ []) }
     {
         let amount = copy_front(&self.bytes[self.taken..], self.piece, room);

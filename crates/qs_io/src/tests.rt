@@ -106,6 +106,18 @@ fn a_slice_is_read_and_a_vector_written(rt: HostRuntime) -> Result<(), Fail> {
 }
 
 #[test]
+fn a_traced_sink_writes_as_the_sink_below_it(rt: HostRuntime) -> Result<(), Fail> {
+    let alloc = rt.alloc();
+    let mut bytes = Vec::new(alloc);
+    let mut sink = TracedSink::new(StdSink::new(&mut bytes));
+    assert_eq!(rt; write_all(&mut sink, TEXT), Ok(()));
+    assert_eq!(rt; bytes.as_slice(), TEXT);
+    let mut sink = TracedSink::new(StdSink::new(Broken));
+    assert_eq!(rt; write_all(&mut sink, TEXT), Err(WriteFault));
+    Ok(())
+}
+
+#[test]
 fn an_error_or_a_write_of_nothing_is_a_fault(rt: HostRuntime) -> Result<(), Fail> {
     let text = read_all(rt.alloc(), &mut StdSource::new(Broken));
     assert_eq!(rt; text.err(), Some(ReadEnd::Fault));
