@@ -150,3 +150,84 @@ impl Write for Broken {
         Err(io::Error::other("broken"))
     }
 }
+
+#[test]
+fn a_read_that_fails_is_a_fault_and_is_not_tried_again(rt: HostRuntime) -> Result<(), Fail> {
+    let alloc = rt.alloc();
+    let mut source = StdSource::new(FailsOnce {
+        bytes: TEXT,
+        has_failed: false,
+    });
+    assert_eq!(rt; read_all(alloc, &mut source).err(), Some(ReadEnd::Fault));
+    let text = read_all(alloc, &mut source)?;
+    assert_eq!(rt; text.as_slice(), TEXT);
+    Ok(())
+}
+
+#[test]
+fn a_flush_that_fails_is_a_fault_behind_one_write(rt: HostRuntime) -> Result<(), Fail> {
+    let mut writer = Counting {
+        writes: 0,
+        flushes: 0,
+        can_flush: false,
+    };
+    let mut sink = TracedSink::new(StdSink::new(&mut writer));
+    assert_eq!(rt; write_all(&mut sink, TEXT), Err(WriteFault));
+    assert_eq!(rt; (writer.writes, writer.flushes), (1, 1));
+    Ok(())
+}
+
+#[test]
+fn a_text_is_one_write_and_one_flush(rt: HostRuntime) -> Result<(), Fail> {
+    let mut writer = Counting {
+        writes: 0,
+        flushes: 0,
+        can_flush: true,
+    };
+    let mut sink = TracedSink::new(StdSink::new(&mut writer));
+    assert_eq!(rt; write_all(&mut sink, TEXT), Ok(()));
+    assert_eq!(rt; write_all(&mut sink, b""), Ok(()));
+    assert_eq!(rt; (writer.writes, writer.flushes), (1, 1));
+    Ok(())
+}
+
+/// A reader whose first read fails, and whose others give the bytes.
+#[derive(Drop)]
+struct FailsOnce<'a> {
+    bytes: &'a [u8],
+    has_failed: bool,
+}
+
+impl Read for FailsOnce<'_> {
+    fn read(&mut self, room: &mut [u8]) -> io::Result<usize> {
+        if !self.has_failed {
+            self.has_failed = true;
+            return Err(io::Error::other("broken"));
+        }
+        self.bytes.read(room)
+    }
+}
+
+/// A writer that takes all, counts its writes and its flushes, and may fail at each flush.
+#[derive(Drop)]
+struct Counting {
+    writes: u32,
+    flushes: u32,
+    can_flush: bool,
+}
+
+impl Write for Counting {
+    fn write(&mut self, bytes: &[u8]) -> io::Result<usize> {
+        self.writes = self.writes.saturating_add(1);
+        Ok(bytes.len())
+    }
+
+    fn flush(&mut self) -> io::Result<()> {
+        self.flushes = self.flushes.saturating_add(1);
+        if self.can_flush {
+            Ok(())
+        } else {
+            Err(io::Error::other("broken"))
+        }
+    }
+}
