@@ -4,9 +4,10 @@ use Rattle.std.specs.Io.KnownBytes.{append_known}
 use Rattle.std.proofs.Math.ListN.{drop_of_length-le}
 use Rattle.std.proofs.Math.Seq.{take-append_seam, take-append-add}
 use Rattle.std.proofs.lemmas.List.{take-append-le}
+use Rattle.qs_tree.specs.declared.cell.Label.{Label}
 use Rattle.qs_tree.specs.Lists.{◌∈◌}
 use Rattle.qs_tree.proofs.Members.{from_map, in_map}
-use Rattle.qs_io.specs.Devices.{AppendsPrefix}
+use Rattle.qs_io.specs.Devices.{AppendsProperPrefix}
 use Rattle.qs_io.proofs.Transfers.{append_known-append_known}
 use Rattle.qs_pattern.specs.Rules.{Rule, IsAccepted}
 use Rattle.qs_pattern.specs.Named.{ArePatternsNamed}
@@ -26,20 +27,22 @@ use Rattle.qsys.specs.Ends.{left_of}
 use Rattle.qsys.specs.Defined.{status_of}
 use Rattle.qsys.specs.Cascading.{DeliversCascade, AreAccepted, CanGoOn, HasCome}
 
--- prefixes of what is written
+-- proper prefixes of what is written
 
--- nothing more than a front that was written
-pub front_written : (old new : Option (List ℕ)) (front text : List ℕ) → new ≡ append_known old front → AppendsPrefix old new (front ++ text)
-front_written old new front text is =
+-- nothing more than a front that was written, where there is more to write
+pub front_written : (old new : Option (List ℕ)) (front text : List ℕ) → 0 < length text → new ≡ append_known old front
+    → AppendsProperPrefix old new (front ++ text)
+front_written old new front text some is =
     (length front, omega (arith, length-append front text), is ∙ ap (append_known old) (sym (take-append_seam front text)))
 
--- a prefix of a block behind a front that was written
-pub block_begun : (old mid new : Option (List ℕ)) (front text more : List ℕ) → mid ≡ append_known old front → AppendsPrefix mid new text → AppendsPrefix old new (front ++ (text ++ more))
+-- a proper prefix of a block behind a front that was written
+pub block_begun : (old mid new : Option (List ℕ)) (front text more : List ℕ) → mid ≡ append_known old front
+    → AppendsProperPrefix mid new text → AppendsProperPrefix old new (front ++ (text ++ more))
 block_begun old mid new front text more is (n, within, begun) = (
   length front + n,
   omega (arith, length-append front (text ++ more), length-append text more),
   begun ∙ ap (λ (known : Option (List ℕ)). append_known known (take n text)) is ∙ append_known-append_known old front (take n text)
-      ∙ ap (λ (bytes : List ℕ). append_known old (front ++ bytes)) (sym (take-append-le n text more within))
+      ∙ ap (λ (bytes : List ℕ). append_known old (front ++ bytes)) (sym (take-append-le n text more (omega (arith, within))))
       ∙ ap (append_known old) (sym (take-append-add front (text ++ more) n)),
 )
 
@@ -53,6 +56,26 @@ all_accepted grammars accepted =
 none_left : (L : ℕ) (names : List (List ℕ)) (grammars : List Grammar) → blocks L names grammars [] ≡ []
 none_left L names [] = refl
 none_left L names (grammar ∷ grammars) = refl
+
+-- a block is not empty
+block_some : (L : ℕ) (names : List (List ℕ)) (name : Label) (left : Left) → 0 < length (block L names name left)
+block_some L names name (a_graph firings graph) = omega arith
+block_some L names name (no_arc firings) = omega arith
+block_some L names name over = omega arith
+
+-- a grammar that is run leaves something
+some_left : {L : ℕ} {G : QGraph} {R : List Rule} {Rs : List (List Rule)} {lefts : List Left} {ending : Ending}
+    → Cascade L G (R ∷ Rs) lefts ending → 0 < length lefts
+some_left (limit needs) = omega arith
+some_left (empty closes few cleans none) = omega arith
+some_left (goes_on closes few cleans some rest) = omega arith
+
+-- so what is written for a cascade of at least one grammar is not empty
+blocks_some : (L : ℕ) (names : List (List ℕ)) (grammar : Grammar) (others : List Grammar) (lefts : List Left) → 0 < length lefts
+    → 0 < length (blocks L names (grammar ∷ others) lefts)
+blocks_some L names grammar others [] some = absurd (omega (arith, some))
+blocks_some L names grammar others (left ∷ lefts) some =
+    omega (arith, block_some L names grammar.name left, length-append (block L names grammar.name left) (blocks L names others lefts))
 
 module _ (L : ℕ) (names : List (List ℕ)) where
   -- the text of the block behind which nothing comes
@@ -164,20 +187,22 @@ module _ (L : ℕ) (names : List (List ℕ)) where
           come_to_end [] come [] all_done (record { lefts = []; cascade = no_more; text_is = refl }) mid (nothing_more mid) answer same
 
       -- there was no memory for the next block
-      pub out_of_memory : (others : List Grammar) → AreAccepted others → IsValid now → HasCome L names G grammars old mid now others
-          → DeliversCascade L names G grammars old mid Memory
-      out_of_memory others accepted valid come =
-          let (text, ending, o) = some_outcome now others accepted valid in
+      pub out_of_memory : (grammar : Grammar) (others : List Grammar) → AreAccepted (grammar ∷ others) → IsValid now
+          → HasCome L names G grammars old mid now (grammar ∷ others) → DeliversCascade L names G grammars old mid Memory
+      out_of_memory grammar others accepted valid come =
+          let (text, ending, o) = some_outcome now (grammar ∷ others) accepted valid in
+          let some : 0 < length text =
+          subst (λ (bytes : List ℕ). 0 < length bytes) (sym o.text_is) (blocks_some L names grammar others o.lefts (some_left o.cascade)) in
           record {
             text = come.front ++ text;
             ending = ending;
             outcome = come.goes_on text ending o;
-            delivered = inr (inr refl, front_written old mid come.front text come.written);
+            delivered = inr (inr refl, front_written old mid come.front text some come.written);
           }
 
       -- the sink failed in the next block
       pub sink_failed : (grammar : Grammar) (others : List Grammar) → AreAccepted (grammar ∷ others) → IsValid now → HasCome L names G grammars old mid now (grammar ∷ others)
-          → (e : StageEnd) → IsStageEnd grammar.rules now L e → (new : Option (List ℕ)) → AppendsPrefix mid new (block L names grammar.name (left_of e))
+          → (e : StageEnd) → IsStageEnd grammar.rules now L e → (new : Option (List ℕ)) → AppendsProperPrefix mid new (block L names grammar.name (left_of e))
           → DeliversCascade L names G grammars old new WriteFault
       sink_failed grammar others accepted valid come e is new begun =
           let text : List ℕ = block L names grammar.name (left_of e) in
@@ -249,7 +274,7 @@ module _ (L : ℕ) (names : List (List ℕ)) (systems : List System) (start : QG
 
   -- there was no memory
   pub turn_without_memory : DeliversCascade L names start (map grammar_of systems) old mid Memory
-  turn_without_memory = out_of_memory L names start (map grammar_of systems) old mid now (grammar_of system ∷ others) accepted_from can.valid come_to
+  turn_without_memory = out_of_memory L names start (map grammar_of systems) old mid now (grammar_of system) others accepted_from can.valid come_to
 
   -- what is left is named
   pub turn_named : (rules : List Rule) → rules ≡ system.rules.items → AreSystemsNamed (length names) systems → (e : StageEnd) → MakesNoLabels rules now e → IsEndNamed (length names) e
@@ -260,11 +285,11 @@ module _ (L : ℕ) (names : List (List ℕ)) (systems : List System) (start : QG
 
   module _ (rules : List Rule) (lent : rules ≡ system.rules.items) where
     -- the sink failed
-    pub turn_failed : (e : StageEnd) → IsStageEnd rules now L e → (new : Option (List ℕ)) (text : List ℕ) → text ≡ block L names system.name (left_of e) → AppendsPrefix mid new text
+    pub turn_failed : (e : StageEnd) → IsStageEnd rules now L e → (new : Option (List ℕ)) (text : List ℕ) → text ≡ block L names system.name (left_of e) → AppendsProperPrefix mid new text
         → DeliversCascade L names start (map grammar_of systems) old new WriteFault
     turn_failed e ends new text same begun =
         sink_failed L names start (map grammar_of systems) old mid now (grammar_of system) others accepted_from can.valid come_to e
-        (subst (λ (rs : List Rule). IsStageEnd rs now L e) lent ends) new (subst (λ (bytes : List ℕ). AppendsPrefix mid new bytes) same begun)
+        (subst (λ (rs : List Rule). IsStageEnd rs now L e) lent ends) new (subst (λ (bytes : List ℕ). AppendsProperPrefix mid new bytes) same begun)
 
     -- no arc was left
     pub turn_empty : (e : StageEnd) (firings : ℕ) → e ≡ end.Empty firings → IsStageEnd rules now L e → (new : Option (List ℕ)) (text : List ℕ) → text ≡ block L names system.name (left_of e)

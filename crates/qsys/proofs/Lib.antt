@@ -16,3 +16,4 @@ pub mod TwoPieces
 pub mod MarksRead
 pub mod Cutting
 pub mod InTwoPieces
+pub mod FromTheFirst

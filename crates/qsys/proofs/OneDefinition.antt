@@ -2,7 +2,7 @@
 use Rattle.std.proofs.Common.{◌≡◌, ℕ, List, [], Option, Some, None, refl, sym, ap, ◌∙◌, subst, inl, inr, arith}
 use Rattle.std.specs.Io.KnownBytes.{append_known}
 use Rattle.std.proofs.lemmas.List.{append-nil}
-use Rattle.qs_io.specs.Devices.{AppendsPrefix}
+use Rattle.qs_io.specs.Devices.{AppendsPrefix, AppendsProperPrefix}
 use Rattle.qs_lex.specs.declared.refusal.Refusal.{Refusal}
 use Rattle.qs_graph.specs.Graphs.{QGraph}
 use Rattle.qs_clean.specs.Cascades.{Ending}
@@ -61,4 +61,5 @@ module _ (one_outcome : OneOutcome) where
       → (text : List ℕ) (status : Status) → IsDefined job bytes text status → AppendsPrefix old new text
   prefix_of_each one job bytes old new (inl same) text status defined = (0, omega arith, same ∙ nothing_more old)
   prefix_of_each one job bytes old new (inr w) text status defined =
-      subst (AppendsPrefix old new) (same_definition one job bytes w.text text w.status status w.defined defined).0 w.written
+      let same = (same_definition one job bytes w.text text w.status status w.defined defined).0 in
+      let (n, within, begun) = subst (AppendsProperPrefix old new) same w.written in (n, omega (arith, within), begun)

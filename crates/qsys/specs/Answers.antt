@@ -1,9 +1,9 @@
 -- What an answer of the program says of the bytes that were read and of those that were written. Whether a sink tells what
 -- was written to it never changes, so an equation between optional lists says both. This project's own.
-use Rattle.std.specs.Prelude.{◌≡◌, ◌⊎◌, ℕ, ◌<◌, List, length, Option}
+use Rattle.std.specs.Prelude.{◌≡◌, ◌⊎◌, ℕ, ◌<◌, List, ◌++◌, length, Option}
 use Rattle.std.specs.Io.KnownBytes.{append_known}
-use Rattle.qs_io.specs.declared.transfer.TheConstants.{MAX_TEXT_BYTES}
-use Rattle.qs_io.specs.Devices.{AppendsPrefix}
+use Rattle.qs_io.specs.Devices.{AppendsProperPrefix}
+use Rattle.qs_io.specs.Limits.{most_text_bytes}
 use Rattle.qsys.specs.declared.job.Job.{Job}
 use Rattle.qsys.specs.declared.status.Status.{Status}
 use Rattle.qsys.specs.declared.status.Status.TheVariants.{Done, Usage, Refused, Limit, ReadFault, TooLong, WriteFault, Memory}
@@ -15,31 +15,38 @@ pub record WritesDefined (job : Job) (bytes : List ℕ) (old new : Option (List 
   pub defined : IsDefined job bytes text status
   pub written : new ≡ append_known old text
 
--- A prefix of the text that is defined for these bytes was written.
-pub record WritesPrefix (job : Job) (bytes : List ℕ) (old new : Option (List ℕ)) : Type 0 where
+-- A proper prefix of the text that is defined for these bytes was written: at least its last byte is missing.
+pub record WritesProperPrefix (job : Job) (bytes : List ℕ) (old new : Option (List ℕ)) : Type 0 where
   pub text : List ℕ
   pub status : Status
   pub defined : IsDefined job bytes text status
-  pub written : AppendsPrefix old new text
+  pub written : AppendsProperPrefix old new text
 
--- Nothing was written, or a prefix of the text that is defined. (Where nothing was written, no clause says that a text is
--- defined: memory may have been wanting before it was found.)
+-- Nothing was written, or a proper prefix of the text that is defined. (Where nothing was written, no clause says that a
+-- text is defined: memory may have been wanting before it was found.)
 abbrev pub KeepsToDefined : Job → List ℕ → Option (List ℕ) → Option (List ℕ) → Type 0
-KeepsToDefined job bytes old new = (new ≡ old) ⊎ WritesPrefix job bytes old new
+KeepsToDefined job bytes old new = (new ≡ old) ⊎ WritesProperPrefix job bytes old new
 
 -- What was written, by the answer, where these bytes were left in the source: the whole text that is defined, with its
--- status; or nothing, where the source failed or the bytes are too many; or a prefix, where the sink failed or memory was
--- wanting. No other answer comes.
+-- status; or nothing, where the source failed or the bytes are too many; or a proper prefix, where the sink failed; or
+-- nothing or a proper prefix, where memory was wanting. No other answer comes.
 abbrev pub EndsAsDefined : Job → List ℕ → Option (List ℕ) → Option (List ℕ) → Status → Type 0
 EndsAsDefined job bytes old new Done = WritesDefined job bytes old new Done
 EndsAsDefined job bytes old new Refused = WritesDefined job bytes old new Refused
 EndsAsDefined job bytes old new Limit = WritesDefined job bytes old new Limit
 EndsAsDefined job bytes old new ReadFault = new ≡ old
-EndsAsDefined job bytes old new TooLong = (MAX_TEXT_BYTES < length bytes) × (new ≡ old)
-EndsAsDefined job bytes old new WriteFault = WritesPrefix job bytes old new
+EndsAsDefined job bytes old new TooLong = (most_text_bytes < length bytes) × (new ≡ old)
+EndsAsDefined job bytes old new WriteFault = WritesProperPrefix job bytes old new
 EndsAsDefined job bytes old new Memory = KeepsToDefined job bytes old new
 EndsAsDefined job bytes old new Usage = ⊥
 
 -- The answers with which a run ends when it has written its whole text.
 abbrev pub IsOfWholeText : Status → Type 0
 IsOfWholeText status = (status ≡ Done) ⊎ (status ≡ Refused) ⊎ (status ≡ Limit)
+
+-- The reads between two moments gave some bytes, by what the source had given before and behind them; and what was written
+-- is, by the answer, what is defined for these bytes.
+pub record EndsAsGiven (job : Job) (given given' : List ℕ) (old new : Option (List ℕ)) (status : Status) : Type 0 where
+  pub bytes : List ℕ
+  pub are_given : given' ≡ given ++ bytes
+  pub ends : EndsAsDefined job bytes old new status

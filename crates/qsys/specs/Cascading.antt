@@ -7,7 +7,7 @@ use Rattle.qs_tree.specs.Lists.{◌∈◌}
 use Rattle.qs_pattern.specs.Rules.{Rule, IsAccepted}
 use Rattle.qs_graph.specs.Graphs.{QGraph, IsValid}
 use Rattle.qs_graphtext.specs.Texts.{AreArcsNamed}
-use Rattle.qs_io.specs.Devices.{AppendsPrefix}
+use Rattle.qs_io.specs.Devices.{AppendsProperPrefix}
 use Rattle.qs_clean.specs.Cascades.{Ending}
 use Rattle.qs_deck.specs.Decks.{Grammar}
 use Rattle.qsys.specs.declared.job.Job.{Job}
@@ -16,11 +16,11 @@ use Rattle.qsys.specs.declared.status.Status.TheVariants.{WriteFault, Memory}
 use Rattle.qsys.specs.Outcomes.{IsOutcome}
 use Rattle.qsys.specs.Defined.{IsDefined, status_of}
 
--- Of a text that is to be written with this status, all was written, and the answer is the status; or a prefix, and the
--- answer is that the sink failed or that memory was wanting.
+-- Of a text that is to be written with this status, all was written, and the answer is the status; or a proper prefix, and
+-- the answer is that the sink failed or that memory was wanting.
 abbrev pub Delivers : Option (List ℕ) → Option (List ℕ) → List ℕ → Status → Status → Type 0
 Delivers old new text status answer =
-    ((answer ≡ status) × (new ≡ append_known old text)) ⊎ (((answer ≡ WriteFault) ⊎ (answer ≡ Memory)) × AppendsPrefix old new text)
+    ((answer ≡ status) × (new ≡ append_known old text)) ⊎ (((answer ≡ WriteFault) ⊎ (answer ≡ Memory)) × AppendsProperPrefix old new text)
 
 -- Where there was memory for the text, it was delivered; where there was none, nothing was written.
 abbrev pub IsWritten : {E : Type 0} → Result (Vec ℕ Global) E → Option (List ℕ) → Option (List ℕ) → Status → Status → Type 0

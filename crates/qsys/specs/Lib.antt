@@ -6,4 +6,5 @@ pub mod Defined
 pub mod Words
 pub mod Options
 pub mod Answers
+pub mod Statuses
 pub mod Cascading

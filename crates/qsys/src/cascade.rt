@@ -1,6 +1,6 @@
 //! Running the grammars of a deck one after another.
 
-ghost use Rattle.std.specs.Prelude.{◌≡◌, ◌≤◌, length, map};
+ghost use Rattle.std.specs.Prelude.{◌≡◌, ◌≢◌, ◌≤◌, length, map};
 ghost use Rattle.qs_io.specs.Devices.{HasRisen};
 ghost use Rattle.qs_deck.specs.Decks.{grammar_of};
 ghost use Rattle.qs_deck.specs.Named.{AreSystemsNamed};
@@ -20,7 +20,8 @@ use std::alloc::Global;
 /// and at once, when it has ended. A grammar that leaves no arc, or that needs more firings than the limit, is the last one.
 ///
 /// `Done` and `Limit` come where all blocks were written; `WriteFault` only where the sink's count of faults rose, and
-/// `Memory` where memory was wanting; a prefix of the blocks was written then.
+/// `Memory` where memory was wanting; a proper prefix of the blocks was written then. With every answer but `WriteFault`
+/// that count stays as it was.
 pub fn cascade<K: Sink>(
     alloc: Global,
     names: &Names,
@@ -35,6 +36,7 @@ pub fn cascade<K: Sink>(
     requires can_go_on { CanGoOn names.now start (length systems.now) }
     ensures delivers { DeliversCascade limit names.now start (map grammar_of systems.now) (K.written sink.old) (K.written sink.new) result }
     ensures fault { result ≡ Status.WriteFault → HasRisen (K.faults sink.old) (K.faults sink.new) }
+    ensures no_fault { result ≢ Status.WriteFault → K.faults sink.new ≡ K.faults sink.old }
     ensures count { K.faults sink.old ≤ K.faults sink.new }
 {
     let mut graph = start;

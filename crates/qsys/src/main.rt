@@ -2,11 +2,18 @@
 //! what each leaves to standard output.
 #![tactic(auto)]
 
+ghost use Rattle.std.specs.Prelude.{◌≡◌, ◌↔◌, IfOk, drop};
+ghost use Rattle.std.specs.IoError.{error_kind};
+ghost use Rattle.std.specs.declared.io.ErrorKind.TheVariants as kind;
+ghost use Rattle.std.specs.Vec.Iter.{into_iter_items};
+ghost use Rattle.qsys.specs.declared.words.WordsEnd.TheVariants as end;
+
 mod blocks;
 mod cascade;
 pub mod defined_laws;
 pub mod job;
 pub mod laws;
+pub mod over;
 mod refusals;
 pub mod run;
 pub mod status;
@@ -14,30 +21,48 @@ pub mod top;
 pub mod words;
 pub mod words_laws;
 
-use crate::status::Status;
-use crate::top::qsys;
-use qs_io::{StdSink, StdSource};
-use std::env::Env;
+use crate::over::{refuse_over, run_over};
+use crate::status::{Status, exit_code};
+use crate::words::WordsEnd;
+use std::alloc::{AllocError, Global};
+use std::env::{Args, Env};
+use std::io::ErrorKind;
 use std::process::ExitCode;
 use std::{env, io};
 
-/// The words that follow the program's name.
-fn words_of<R: Env + AllocGlobal>(rt: &R) -> io::Result<Vec<String>> {
-    let mut words = Vec::new(rt.alloc());
-    for word in env::args(rt)?.skip(1) {
-        words.push(word)?;
+/// All arguments but the first, which is the program's name.
+fn behind_name(alloc: Global, arguments: Args) -> Result<Vec<String>, AllocError>
+    ensures { IfOk result (λ words. words.items ≡ drop 1 (into_iter_items arguments)) }
+{
+    arguments.skip(1).collect(alloc)
+}
+
+/// Why the arguments weren't had: `Memory` where memory was wanting, and else `Usage`, for one of them isn't UTF-8.
+fn words_end(error: &io::Error) -> WordsEnd
+    ensures { result ≡ end.Memory ↔ error_kind error.now ≡ kind.OutOfMemory }
+{
+    match error.kind() {
+        ErrorKind::OutOfMemory => WordsEnd::Memory,
+        _ => WordsEnd::Usage,
     }
-    Ok(words)
+}
+
+/// The words that follow the program's name. `Usage` comes where one of the arguments, be it the name, isn't UTF-8, and
+/// `Memory` where memory was wanting.
+fn words_of<R: Env + AllocGlobal>(rt: &R) -> Result<Vec<String>, WordsEnd> {
+    match env::args(rt) {
+        Ok(arguments) => Ok(behind_name(rt.alloc(), arguments)?),
+        Err(error) => Err(words_end(&error)),
+    }
 }
 
 fn main(rt: HostRuntime) -> ExitCode {
-    let Ok(words) = words_of(&rt) else {
-        return ExitCode::from(Status::Memory as u8);
+    let status = match words_of(&rt) {
+        Ok(words) => run_over(rt.alloc(), &words, rt.reader(), io::writer(&rt)).status,
+        Err(WordsEnd::Usage) => refuse_over(io::writer(&rt)).status,
+        Err(WordsEnd::Memory) => Status::Memory,
     };
-    let mut source = StdSource::new(rt.reader());
-    let mut sink = StdSink::new(io::writer(&rt));
-    let status = qsys(rt.alloc(), &words, &mut source, &mut sink);
-    ExitCode::from(status as u8)
+    exit_code(status)
 }
 
 #[cfg(test)]

@@ -4,10 +4,11 @@ ghost use Rattle.std.specs.Prelude.{◌≡◌, ◌≢◌, ◌⊎◌, ◌↔◌, 
 ghost use Rattle.std.specs.Io.KnownBytes.{IsAtEnd};
 ghost use Rattle.qs_graphtext.specs.Texts.{graph_text};
 ghost use Rattle.qs_io.specs.Devices.{HasRisen, TakesBytes};
+ghost use Rattle.qs_io.specs.Limits.{most_text_bytes};
 ghost use Rattle.qs_deck.specs.Decks.{grammar_of};
 ghost use Rattle.qs_deck.specs.Texts.{deck_text};
 ghost use Rattle.qsys.specs.Words.{IsLimit};
-ghost use Rattle.qsys.specs.Answers.{EndsAsDefined, IsOfWholeText, WritesDefined};
+ghost use Rattle.qsys.specs.Answers.{EndsAsDefined, EndsAsGiven, IsOfWholeText, WritesDefined};
 ghost use Rattle.qsys.specs.Cascading.{IsAnswered, IsWritten};
 
 use crate::cascade::cascade;
@@ -16,7 +17,7 @@ use crate::refusals::refusal_line;
 use crate::status::Status;
 use qs_deck::{Deck, DeckEnd, read_deck, write_deck};
 use qs_graphtext::write_graph;
-use qs_io::{MAX_TEXT_BYTES, ReadEnd, Sink, Source, read_all, write_all};
+use qs_io::{ReadEnd, Sink, Source, read_all, write_all};
 use std::alloc::{AllocError, Global};
 
 /// The text of the deck.
@@ -37,12 +38,13 @@ fn graph_text(alloc: Global, deck: &Deck) -> Result<Vec<u8>, AllocError>
     Ok(text)
 }
 
-/// Writes the text, where memory was there for it, and answers with the status of its whole text. `WriteFault` comes only where
-/// the sink failed; then a prefix of the text was written.
+/// Writes the text, where memory was there for it, and answers with the status of its whole text. `WriteFault` comes only
+/// where the sink failed; then a proper prefix of the text was written.
 fn write_text<K: Sink>(sink: &mut K, text: Result<Vec<u8>, AllocError>, status: Status) -> Status
     requires { IsOfWholeText status }
     ensures written { IsWritten text (K.written sink.old) (K.written sink.new) status result }
     ensures fault { result ≡ Status.WriteFault → HasRisen (K.faults sink.old) (K.faults sink.new) }
+    ensures no_fault { result ≢ Status.WriteFault → K.faults sink.new ≡ K.faults sink.old }
     ensures count { K.faults sink.old ≤ K.faults sink.new }
 {
     let Ok(text) = text else {
@@ -54,14 +56,15 @@ fn write_text<K: Sink>(sink: &mut K, text: Result<Vec<u8>, AllocError>, status: 
     }
 }
 
-/// Does the job with the text that was read. `Memory` comes where memory was wanting: before anything was written, or with a
-/// prefix of the text that is defined.
+/// Does the job with the text that was read. `Memory` comes where memory was wanting: before anything was written, or with
+/// a proper prefix of the text that is defined.
 fn answer<K: Sink>(alloc: Global, job: &Job, bytes: &[u8], sink: &mut K) -> Status
     requires limit { IsLimit job.now.limit }
-    requires bytes { length bytes.now ≤ MAX_TEXT_BYTES }
+    requires bytes { length bytes.now ≤ most_text_bytes }
     ensures answered { IsAnswered job.now bytes.now (K.written sink.old) (K.written sink.new) result }
     ensures kinds { IsOfWholeText result ⊎ (result ≡ Status.WriteFault) ⊎ (result ≡ Status.Memory) }
     ensures fault { result ≡ Status.WriteFault → HasRisen (K.faults sink.old) (K.faults sink.new) }
+    ensures no_fault { result ≢ Status.WriteFault → K.faults sink.new ≡ K.faults sink.old }
     ensures count { K.faults sink.old ≤ K.faults sink.new }
 {
     let deck = match read_deck(alloc, bytes) {
@@ -93,9 +96,11 @@ fn answer<K: Sink>(alloc: Global, job: &Job, bytes: &[u8], sink: &mut K) -> Stat
 /// - `Done`, `Refused` and `Limit` come where the whole text that is defined was written, and the source was read to its
 ///   end.
 /// - `ReadFault` comes only where the source's count of faults rose in this call, and `TooLong` exactly where
-///   `MAX_TEXT_BYTES + 1` bytes were taken; nothing is written then.
-/// - `WriteFault` comes only where the sink's count of faults rose in this call, and `Memory` where memory was wanting; a
-///   prefix of the text that is defined is written then.
+///   4,194,305 bytes were taken; nothing is written then.
+/// - `WriteFault` comes only where the sink's count of faults rose in this call; a proper prefix of the text that is defined
+///   is written then. `Memory` comes where memory was wanting; nothing is written then, or a proper prefix.
+/// - With every answer but `ReadFault` the source's count of faults stays as it was, and with every answer but `WriteFault`
+///   the sink's: so where a whole text was written, no fault was counted.
 pub fn run_still<S: Source, K: Sink>(
     alloc: Global,
     job: &Job,
@@ -109,16 +114,22 @@ pub fn run_still<S: Source, K: Sink>(
     ensures headline { (bytes : List ℕ) → S.left source.old ≡ Some bytes
         → EndsAsDefined job.now bytes (K.written sink.old) (K.written sink.new) result }
     // With no fault and not too many bytes, only memory can be wanting.
-    ensures complete { (bytes : List ℕ) → S.left source.old ≡ Some bytes → length bytes ≤ MAX_TEXT_BYTES
+    ensures complete { (bytes : List ℕ) → S.left source.old ≡ Some bytes → length bytes ≤ most_text_bytes
         → ¬ HasRisen (S.faults source.old) (S.faults source.new) → ¬ HasRisen (K.faults sink.old) (K.faults sink.new)
         → WritesDefined job.now bytes (K.written sink.old) (K.written sink.new) result ⊎ (result ≡ Status.Memory) }
 
+    // The same of the bytes that the reads of this call gave, which every source tells.
+    ensures as_given { EndsAsGiven job.now (S.given source.old) (S.given source.new) (K.written sink.old) (K.written sink.new) result }
+    ensures ended { IsOfWholeText result → S.has_ended source.new }
+
     ensures read_to_end { IsOfWholeText result → IsAtEnd (S.left source.new) }
     ensures read_fault { result ≡ Status.ReadFault → HasRisen (S.faults source.old) (S.faults source.new) }
-    ensures too_long { (n : ℕ) × TakesBytes (S.left source.old) (S.left source.new) n × (n ≤ MAX_TEXT_BYTES + 1)
-        × (result ≡ Status.TooLong ↔ (n ≡ MAX_TEXT_BYTES + 1)) }
+    ensures too_long { (n : ℕ) × TakesBytes (S.left source.old) (S.left source.new) n × (n ≤ most_text_bytes + 1)
+        × (result ≡ Status.TooLong ↔ (n ≡ most_text_bytes + 1)) }
     ensures nothing_written { (result ≡ Status.ReadFault) ⊎ (result ≡ Status.TooLong) → K.written sink.new ≡ K.written sink.old }
     ensures write_fault { result ≡ Status.WriteFault → HasRisen (K.faults sink.old) (K.faults sink.new) }
+    ensures no_read_fault { result ≢ Status.ReadFault → S.faults source.new ≡ S.faults source.old }
+    ensures no_write_fault { result ≢ Status.WriteFault → K.faults sink.new ≡ K.faults sink.old }
     ensures not_usage { result ≢ Status.Usage }
 
     ensures source_count { S.faults source.old ≤ S.faults source.new }

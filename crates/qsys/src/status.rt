@@ -1,6 +1,12 @@
 //! How the program ends.
 
-/// The status with which the program ends.
+ghost use Rattle.std.specs.Prelude.{◌≡◌};
+ghost use Rattle.std.specs.Process.{exit_status};
+ghost use Rattle.qsys.specs.Statuses.{number_of};
+
+use std::process::ExitCode;
+
+/// The status with which the program ends. Its number is the exit status of the process.
 #[derive(Clone, Copy, Debug, PartialEq, Eq)]
 pub enum Status {
     /// The whole text was written.
@@ -15,8 +21,15 @@ pub enum Status {
     ReadFault = 4,
     /// The source has more bytes than a text may have; nothing was written.
     TooLong = 5,
-    /// The sink failed; a prefix of the text was written.
+    /// The sink failed; a proper prefix of the text was written.
     WriteFault = 6,
-    /// There was no memory; a prefix of the text was written.
+    /// There was no memory; nothing was written, or a proper prefix of the text.
     Memory = 7,
+}
+
+/// The exit code of the process that ends with this status.
+pub fn exit_code(status: Status) -> ExitCode
+    ensures { exit_status result ≡ number_of status }
+{
+    ExitCode::from(status as u8)
 }

@@ -1,7 +1,10 @@
+use crate::over::{refuse_over, run_over};
 use crate::status::Status;
 use crate::top::qsys;
 use qs_io::{MemSink, MemSource, SureSource};
 use std::alloc::{AllocError, Global};
+use std::io;
+use std::io::Write;
 use std::test::Fail;
 
 const TEXT: &[u8] = b"-SYSTEME- S.\nA == B.\n-GRAPHE-\n-1- A -2-.\n-FIN-\n";
@@ -256,4 +259,69 @@ fn other_words_give_the_usage_line_and_nothing_is_read(rt: HostRuntime) -> Resul
         assert_eq!(rt; source.left(), TEXT, "{line}");
     }
     Ok(())
+}
+
+#[test]
+fn a_run_over_a_reader_and_a_writer_in_memory(rt: HostRuntime) -> Result<(), Fail> {
+    let alloc = rt.alloc();
+    for (line, status, text) in [
+        (
+            "run",
+            Status::Done,
+            b"# S 1\n-GRAPHE-\n-1- B -2-.\n-FIN-\n".as_slice(),
+        ),
+        (
+            "graph",
+            Status::Done,
+            b"-GRAPHE-\n-1- A -2-.\n-FIN-\n".as_slice(),
+        ),
+        ("walk", Status::Usage, USAGE),
+    ] {
+        let words = words_of(alloc, line)?;
+        let mut written = Vec::new(alloc);
+        let run = run_over(alloc, &words, TEXT, &mut written);
+        assert_eq!(rt; run.status, status, "{line}");
+        assert_eq!(rt; written.as_slice(), text, "{line}");
+    }
+    let mut written = Vec::new(alloc);
+    assert_eq!(rt; refuse_over(&mut written).status, Status::Usage);
+    assert_eq!(rt; written.as_slice(), USAGE);
+    Ok(())
+}
+
+#[test]
+fn each_block_is_one_write_and_a_writer_that_is_full_ends_the_run(
+    rt: HostRuntime,
+) -> Result<(), Fail> {
+    let alloc = rt.alloc();
+    let words = words_of(alloc, "run")?;
+    let text =
+        b"-SYSTEME- S.\nA == B.\n-SYSTEME- T.\nB == C.\n-GRAPHE-\n-1- A -2-.\n-FIN-\n".as_slice();
+    for (room, status, writes) in [(2, Status::Done, 2), (1, Status::WriteFault, 2)] {
+        let mut writer = Counting { room, writes: 0 };
+        assert_eq!(rt; run_over(alloc, &words, text, &mut writer).status, status);
+        assert_eq!(rt; writer.writes, writes);
+    }
+    Ok(())
+}
+
+/// A writer that counts its writes, takes each whole, and fails at those behind the first `room` ones.
+#[derive(Drop)]
+struct Counting {
+    room: u32,
+    writes: u32,
+}
+
+impl Write for Counting {
+    fn write(&mut self, bytes: &[u8]) -> io::Result<usize> {
+        self.writes = self.writes.saturating_add(1);
+        if self.writes > self.room {
+            return Err(io::Error::other("full"));
+        }
+        Ok(bytes.len())
+    }
+
+    fn flush(&mut self) -> io::Result<()> {
+        Ok(())
+    }
 }

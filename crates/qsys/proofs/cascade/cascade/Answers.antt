@@ -53,7 +53,7 @@ loop-system-preserved g c = (
       c.system-item.is c.loop-system-test.true c.requires.accepted c.loop-system.invariant.0 c.loop-system.invariant.1
       c.deref.result.now c.deref.ensures.value c.in-Ok.end c.in-Left.left c.in-Left.firings c.in-Left.is c.in-Ok.ensures.end
       c.requires.limit.high c.requires.named c.in-Ok.ensures.grows c.in-Ok.ensures.labels,
-  omega (arith, c.loop-system.invariant.2, c.write_all.ensures.count),
+  omega (arith, c.loop-system.invariant.2, c.in-Ok-write_all.ensures.no_fault),
 )
 
 pub returns-clause-delivers : goal.returns-clause-delivers

@@ -1,4 +1,4 @@
-use Rattle.std.proofs.Common.{◌≤◌, length, map, drop}
+use Rattle.std.proofs.Common.{◌≡◌, length, map, drop}
 use Rattle.qs_deck.specs.Decks.{grammar_of}
 use Rattle.qsys.specs.Cascading.{CanGoOn, HasCome}
 use Rattle.qsys.proofs.cascade.cascade.Given as goal
@@ -7,4 +7,4 @@ abbrev pub invariant-loop-system : goal.invariant-loop-system
 invariant-loop-system g l =
     HasCome l.limit l.names l.initial.graph (map grammar_of l.systems) (g.K.Sink.written l.fn.sink) (g.K.Sink.written l.sink) l.graph (map grammar_of (drop l.system-index l.systems))
     × CanGoOn l.names l.graph (length (drop l.system-index l.systems))
-    × (g.K.Sink.faults l.fn.sink ≤ g.K.Sink.faults l.sink)
+    × (g.K.Sink.faults l.sink ≡ g.K.Sink.faults l.fn.sink)

@@ -2,7 +2,7 @@ use Rattle.std.proofs.Common.{◌≡◌, ◌⊎◌, Err, ap, map, subst}
 use Rattle.std.specs.String.{string_bytes}
 use Rattle.qsys.specs.declared.job.Job.{Job}
 use Rattle.qsys.specs.declared.status.Status.TheVariants as status
-use Rattle.qsys.specs.Answers.{EndsAsDefined, WritesDefined}
+use Rattle.qsys.specs.Answers.{EndsAsDefined, EndsAsGiven, WritesDefined}
 use Rattle.qsys.proofs.ReadWords.{not_both, same_job}
 use Rattle.qsys.proofs.top.qsys.Goals as goal
 
@@ -17,6 +17,15 @@ returns-in-Ok-clause-complete g c = λ job is bytes told few no_read_fault no_wr
     subst (λ (j : Job). WritesDefined j bytes (g.K.Sink.written c.args.sink.now) (g.K.Sink.written c.run_still.new.sink) c.run_still.result ⊎ (c.run_still.result ≡ status.Memory))
     (same_job (map string_bytes c.args.words.now) c.in-Ok.job job c.in-Ok.ensures.job is)
     (c.run_still.ensures.complete bytes told few no_read_fault no_write_fault)
+
+pub returns-in-Ok-clause-as_given : goal.returns-in-Ok-clause-as_given
+returns-in-Ok-clause-as_given g c = λ job is.
+    subst (λ (j : Job). EndsAsGiven j (g.S.Source.given c.args.source.now) (g.S.Source.given c.run_still.new.source) (g.K.Sink.written c.args.sink.now) (g.K.Sink.written c.run_still.new.sink) c.run_still.result)
+    (same_job (map string_bytes c.args.words.now) c.in-Ok.job job c.in-Ok.ensures.job is)
+    c.run_still.ensures.as_given
+
+pub returns-in-Err-Usage-clause-as_given : goal.returns-in-Err-Usage-clause-as_given
+returns-in-Err-Usage-clause-as_given g c = λ job is. absurd (not_both (map string_bytes c.args.words.now) job is (c.in-Err-Usage.ensures.usage (ap Err c.in-Err-Usage.field-0-is)))
 
 pub returns-in-Err-Usage-clause-headline : goal.returns-in-Err-Usage-clause-headline
 returns-in-Err-Usage-clause-headline g c = λ job is bytes told. absurd (not_both (map string_bytes c.args.words.now) job is (c.in-Err-Usage.ensures.usage (ap Err c.in-Err-Usage.field-0-is)))
