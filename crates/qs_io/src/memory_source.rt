@@ -29,7 +29,14 @@ impl Model for MemSource {
 
     ghost Value = { SourceState };
 
-    ghost view = { λ s. record { left = drop s.taken s.bytes.items; given = take s.taken s.bytes.items; piece = s.piece; failing = s.failing.items; calls = s.calls; faults = s.faults } };
+    ghost view = { λ s. record {
+      left = drop s.taken s.bytes.items;
+      given = take s.taken s.bytes.items;
+      piece = s.piece;
+      failing = s.failing.items;
+      calls = s.calls;
+      faults = s.faults;
+    } };
 
     ghost invariant = { λ s. (s.taken ≤ length s.bytes.items) × (0 < s.piece) × (s.faults ≤ s.calls) };
 }
@@ -40,7 +47,14 @@ impl MemSource {
     pub fn new(alloc: Global, bytes: Vec<u8>, piece: usize, failing: Vec<u64>) -> MemSource
         requires piece { 0 < piece }
         requires failing { IsStrictlyIncreasing failing.items }
-        ensures { result ≡ record { left = bytes.items; given = []; piece = piece; failing = failing.items; calls = 0; faults = 0 } }
+        ensures { result ≡ record {
+          left = bytes.items;
+          given = [];
+          piece = piece;
+          failing = failing.items;
+          calls = 0;
+          faults = 0;
+        } }
     {
         MemSource {
             alloc,
@@ -85,7 +99,11 @@ impl Source for MemSource {
 
         ensures amount { IfOk result (λ n. n ≡ min (length room.new) (min self.old.piece (length self.old.left))) }
         ensures bytes { IfOk result (λ n. take n room.new ≡ take n self.old.left) }
-        ensures ok { IfOk result (λ n. self.new ≡ record self.old { left = drop n self.old.left; given = self.old.given ++ take n self.old.left; calls = calls_after self.old.calls }) }
+        ensures ok { IfOk result (λ n. self.new ≡ record self.old {
+          left = drop n self.old.left;
+          given = self.old.given ++ take n self.old.left;
+          calls = calls_after self.old.calls;
+        }) }
         ensures end { IfOk result (λ n. n ≡ 0 → self.old.left ≡ []) }
     {
         let fails = fails_next(self.calls, &self.failing);
@@ -118,7 +136,11 @@ impl Model for SureSource {
 
     ghost Value = { SureSourceState };
 
-    ghost view = { λ s. record { left = drop s.taken s.bytes.items; given = take s.taken s.bytes.items; piece = s.piece } };
+    ghost view = { λ s. record {
+      left = drop s.taken s.bytes.items;
+      given = take s.taken s.bytes.items;
+      piece = s.piece;
+    } };
 
     ghost invariant = { λ s. (s.taken ≤ length s.bytes.items) × (0 < s.piece) };
 }
@@ -152,7 +174,10 @@ impl Source for SureSource {
 
         ensures amount { IsOkAnd result (λ n. n ≡ min (length room.new) (min self.old.piece (length self.old.left))) }
         ensures bytes { IfOk result (λ n. take n room.new ≡ take n self.old.left) }
-        ensures ok { IfOk result (λ n. self.new ≡ record self.old { left = drop n self.old.left; given = self.old.given ++ take n self.old.left }) }
+        ensures ok { IfOk result (λ n. self.new ≡ record self.old {
+          left = drop n self.old.left;
+          given = self.old.given ++ take n self.old.left;
+        }) }
         ensures end { IfOk result (λ n. n ≡ 0 → self.old.left ≡ []) }
     {
         let amount = copy_front(&self.bytes[self.taken..], self.piece, room);

@@ -45,7 +45,8 @@ impl<K: Sink> Sink for TracedSink<K> {
         ensures some { IfOk result (λ n. 0 < n) }
         ensures bound { IfOk result (λ n. n ≤ length piece.now) }
         ensures bytes { IfOk result (λ n. self.new.taken ≡ self.old.taken ++ take n piece.now) }
-        ensures below { IfOk result (λ n. K.written self.new.sink ≡ append_known (K.written self.old.sink) (take n piece.now)) }
+        ensures below { IfOk result (λ n.
+            K.written self.new.sink ≡ append_known (K.written self.old.sink) (take n piece.now)) }
 
         ensures no_fault { OnOk result (K.faults self.new.sink ≡ K.faults self.old.sink) }
         ensures failed { OnErr result (HasRisen (K.faults self.old.sink) (K.faults self.new.sink)) }

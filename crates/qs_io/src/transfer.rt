@@ -48,8 +48,8 @@ pub struct WriteFault;
 /// - `TooLong` comes exactly where `MAX_TEXT_BYTES + 1` bytes were taken; no more are asked for.
 /// - `Memory` comes where the bytes find no memory.
 ///
-/// After each of these the source has lost the bytes that were taken, and they aren't given back; `given` tells them. At
-/// most `MAX_TEXT_BYTES + 1` reads are made. With every answer but `Fault` the count of faults stays as it was.
+/// After each of these the source has lost the bytes that were taken, and they aren't given back; `given` tells them.
+/// At most `MAX_TEXT_BYTES + 1` reads are made. With every answer but `Fault` the count of faults stays as it was.
 pub fn read_all<S: Source>(alloc: Global, source: &mut S) -> Result<Vec<u8>, ReadEnd>
     ensures bytes { IfOk result (λ text. S.left source.old ≡ prepend_known text.items (S.left source.new)) }
     ensures end { IfOk result (λ text. IsAtEnd (S.left source.new)) }
@@ -64,7 +64,8 @@ pub fn read_all<S: Source>(alloc: Global, source: &mut S) -> Result<Vec<u8>, Rea
         × (IsErrOf result ReadEnd.TooLong ↔ (n ≡ most_text_bytes + 1)) }
 
     // The same of what was given, which every source tells.
-    ensures gives { Gives (S.given source.old) (S.given source.new) (most_text_bytes + 1) (IsErrOf result ReadEnd.TooLong) }
+    ensures gives { Gives (S.given source.old) (S.given source.new) (most_text_bytes + 1)
+        (IsErrOf result ReadEnd.TooLong) }
 
     ensures no_fault { OnOk result (S.faults source.new ≡ S.faults source.old) }
     ensures no_other_fault { OnErr result (IsErrOf result ReadEnd.Fault ⊎ (S.faults source.new ≡ S.faults source.old)) }

@@ -22,8 +22,8 @@ pub record WritesProperPrefix (job : Job) (bytes : List ℕ) (old new : Option (
   pub defined : IsDefined job bytes text status
   pub written : AppendsProperPrefix old new text
 
--- Nothing was written, or a proper prefix of the text that is defined. (Where nothing was written, no clause says that a
--- text is defined: memory may have been wanting before it was found.)
+-- Nothing was written, or a proper prefix of the text that is defined. (Where nothing was written, no clause says
+-- that a text is defined: memory may have been wanting before it was found.)
 abbrev pub KeepsToDefined : Job → List ℕ → Option (List ℕ) → Option (List ℕ) → Type 0
 KeepsToDefined job bytes old new = (new ≡ old) ⊎ WritesProperPrefix job bytes old new
 
@@ -44,8 +44,8 @@ EndsAsDefined job bytes old new Usage = ⊥
 abbrev pub IsOfWholeText : Status → Type 0
 IsOfWholeText status = (status ≡ Done) ⊎ (status ≡ Refused) ⊎ (status ≡ Limit)
 
--- The reads between two moments gave some bytes, by what the source had given before and behind them; and what was written
--- is, by the answer, what is defined for these bytes.
+-- The reads between two moments gave some bytes, by what the source had given before and behind them; and what was
+-- written is, by the answer, what is defined for these bytes.
 pub record EndsAsGiven (job : Job) (given given' : List ℕ) (old new : Option (List ℕ)) (status : Status) : Type 0 where
   pub bytes : List ℕ
   pub are_given : given' ≡ given ++ bytes

@@ -16,8 +16,8 @@ use Rattle.qsys.specs.declared.status.Status.TheVariants.{WriteFault, Memory}
 use Rattle.qsys.specs.Outcomes.{IsOutcome}
 use Rattle.qsys.specs.Defined.{IsDefined, status_of}
 
--- Of a text that is to be written with this status, all was written, and the answer is the status; or a proper prefix, and
--- the answer is that the sink failed or that memory was wanting.
+-- Of a text that is to be written with this status, all was written, and the answer is the status; or a proper
+-- prefix, and the answer is that the sink failed or that memory was wanting.
 abbrev pub Delivers : Option (List ℕ) → Option (List ℕ) → List ℕ → Status → Status → Type 0
 Delivers old new text status answer =
     ((answer ≡ status) × (new ≡ append_known old text)) ⊎ (((answer ≡ WriteFault) ⊎ (answer ≡ Memory)) × AppendsProperPrefix old new text)

@@ -19,9 +19,9 @@ use std::alloc::Global;
 /// Runs the grammars one after another, each on the graph that the one before it left, and writes the block of each, whole
 /// and at once, when it has ended. A grammar that leaves no arc, or that needs more firings than the limit, is the last one.
 ///
-/// `Done` and `Limit` come where all blocks were written; `WriteFault` only where the sink's count of faults rose, and
-/// `Memory` where memory was wanting; a proper prefix of the blocks was written then. With every answer but `WriteFault`
-/// that count stays as it was.
+/// `Done` and `Limit` come where all blocks were written; `WriteFault` only where the sink's count of faults rose,
+/// and `Memory` where memory was wanting; a proper prefix of the blocks was written then. With every answer but
+/// `WriteFault` that count stays as it was.
 pub fn cascade<K: Sink>(
     alloc: Global,
     names: &Names,

@@ -1,8 +1,8 @@
 //! The whole program over a reader and a writer of std.
 
-ghost use Rattle.std.specs.Prelude.{◌≡◌, ◌≢◌, ◌⊎◌, [], ◌<◌, ◌≤◌, Some, IsTrue, length, map};
+ghost use Rattle.std.specs.Prelude.{◌≡◌, ◌≢◌, ◌⊎◌, ◌+◌, [], ◌<◌, ◌≤◌, Some, IsTrue, length, map};
 ghost use Rattle.std.specs.String.{string_bytes};
-ghost use Rattle.qs_io.specs.Devices.{AppendsProperPrefix};
+ghost use Rattle.qs_io.specs.Devices.{AppendsProperPrefix, Gives};
 ghost use Rattle.qs_io.specs.Limits.{most_text_bytes};
 ghost use Rattle.qsys.specs.declared.job.Job.{Job};
 ghost use Rattle.qsys.specs.Texts.{usage_line};
@@ -15,8 +15,8 @@ use qs_io::{StdSink, StdSource, TracedSink};
 use std::alloc::Global;
 use std::io::{Read, Write};
 
-/// A run that has ended: its status, and the reader and the writer that it had, with what its reads gave and what its writes
-/// took.
+/// A run that has ended: its status, and the reader and the writer that it had, with what its reads gave and what its
+/// writes took.
 #[derive(Drop)]
 pub struct EndedRun<R, W> {
     pub status: Status,
@@ -26,11 +26,11 @@ pub struct EndedRun<R, W> {
 
 /// Does what `qsys` does, over this reader and this writer.
 ///
-/// Whatever bytes the reads of this run gave, from the first to the last, the bytes that its writes took, from the first to
-/// the last, are exactly the text that is defined for the job and these bytes, with its status; or a proper prefix of it where
-/// the writer failed; or nothing or a proper prefix where memory was wanting; or nothing where the reader failed or gave more
-/// bytes than a text may have. Where a whole text was written, the last read said that the input has ended, and neither the
-/// reader nor the writer failed.
+/// Whatever bytes the reads of this run gave, from the first to the last, the bytes that its writes took, from the
+/// first to the last, are exactly the text that is defined for the job and these bytes, with its status; or a proper
+/// prefix of it where the writer failed; or nothing or a proper prefix where memory was wanting; or nothing where the
+/// reader failed or gave more bytes than a text may have. Where a whole text was written, the last read said that the
+/// input has ended, and neither the reader nor the writer failed.
 pub fn run_over<R: Read, W: Write>(
     alloc: Global,
     words: &[String],
@@ -41,19 +41,22 @@ pub fn run_over<R: Read, W: Write>(
         → EndsAsDefined job result.source.given (Some []) (Some result.sink.taken) result.status }
     ensures ended { IsOfWholeText result.status → IsTrue result.source.ended }
     // With no fault and not too many bytes, only memory can be wanting.
-    ensures complete { (job : Job) → IsJobOf (map string_bytes words.now) job → length result.source.given ≤ most_text_bytes
-        → result.source.faults ≡ 0 → result.sink.sink.faults ≡ 0
+    ensures complete { (job : Job) → IsJobOf (map string_bytes words.now) job
+        → length result.source.given ≤ most_text_bytes → result.source.faults ≡ 0 → result.sink.sink.faults ≡ 0
         → WritesDefined job result.source.given (Some []) (Some result.sink.taken) result.status
         ⊎ (result.status ≡ Status.Memory) }
 
-    // Words that give no job are answered with the usage line, where there is memory to read them, and nothing is read for
-    // them.
-    ensures usage { result.status ≡ Status.Usage → AreRefused (map string_bytes words.now) × (result.sink.taken ≡ usage_line) }
+    // Words that give no job are answered with the usage line, where there is memory to read them, and nothing is
+    // read for them.
+    ensures usage { result.status ≡ Status.Usage
+        → AreRefused (map string_bytes words.now) × (result.sink.taken ≡ usage_line) }
     ensures refused_words { AreRefused (map string_bytes words.now) → (result.status ≡ Status.Usage)
         ⊎ ((result.status ≡ Status.WriteFault) × AppendsProperPrefix (Some []) (Some result.sink.taken) usage_line)
         ⊎ ((result.status ≡ Status.Memory) × (result.sink.taken ≡ [])) }
     ensures nothing_read { AreRefused (map string_bytes words.now) → result.source.given ≡ [] }
 
+    // No more is asked for than one byte past the longest text.
+    ensures gives { Gives [] result.source.given (most_text_bytes + 1) (result.status ≡ Status.TooLong) }
     ensures read_fault { result.status ≡ Status.ReadFault → 0 < result.source.faults }
     ensures write_fault { result.status ≡ Status.WriteFault → 0 < result.sink.sink.faults }
     ensures no_read_fault { result.status ≢ Status.ReadFault → result.source.faults ≡ 0 }
@@ -69,16 +72,17 @@ pub fn run_over<R: Read, W: Write>(
     }
 }
 
-/// A run for words that no text tells, which has ended: its status, and the writer that it had, with what its writes took.
+/// A run for words that no text tells, which has ended: its status, and the writer that it had, with what its writes
+/// took.
 #[derive(Drop)]
 pub struct RefusedRun<W> {
     pub status: Status,
     pub sink: TracedSink<StdSink<W>>,
 }
 
-/// Answers words of which one isn't a text, over this writer: the usage line is written, as for all words that give no job.
-/// `WriteFault` comes only where the writer failed; then a proper prefix of the line was written. Nothing is read, and no
-/// memory is taken.
+/// Answers words of which one isn't a text, over this writer: the usage line is written, as for all words that give
+/// no job. `WriteFault` comes only where the writer failed; then a proper prefix of the line was written. Nothing is
+/// read, and no memory is taken.
 pub fn refuse_over<W: Write>(writer: W) -> RefusedRun<W>
     ensures usage { result.status ≡ Status.Usage → result.sink.taken ≡ usage_line }
     ensures answers { (result.status ≡ Status.Usage)

@@ -3,7 +3,7 @@
 ghost use Rattle.std.specs.Prelude.{◌≡◌, ◌≢◌, ◌⊎◌, ◌↔◌, ◌+◌, ◌≤◌, ℕ, List, Some, Result, Ok, Err, IfOk, length, map};
 ghost use Rattle.std.specs.Io.KnownBytes.{IsAtEnd};
 ghost use Rattle.qs_graphtext.specs.Texts.{graph_text};
-ghost use Rattle.qs_io.specs.Devices.{HasRisen, TakesBytes};
+ghost use Rattle.qs_io.specs.Devices.{Gives, HasRisen, TakesBytes};
 ghost use Rattle.qs_io.specs.Limits.{most_text_bytes};
 ghost use Rattle.qs_deck.specs.Decks.{grammar_of};
 ghost use Rattle.qs_deck.specs.Texts.{deck_text};
@@ -38,8 +38,8 @@ fn graph_text(alloc: Global, deck: &Deck) -> Result<Vec<u8>, AllocError>
     Ok(text)
 }
 
-/// Writes the text, where memory was there for it, and answers with the status of its whole text. `WriteFault` comes only
-/// where the sink failed; then a proper prefix of the text was written.
+/// Writes the text, where memory was there for it, and answers with the status of its whole text. `WriteFault` comes
+/// only where the sink failed; then a proper prefix of the text was written.
 fn write_text<K: Sink>(sink: &mut K, text: Result<Vec<u8>, AllocError>, status: Status) -> Status
     requires { IsOfWholeText status }
     ensures written { IsWritten text (K.written sink.old) (K.written sink.new) status result }
@@ -56,8 +56,8 @@ fn write_text<K: Sink>(sink: &mut K, text: Result<Vec<u8>, AllocError>, status: 
     }
 }
 
-/// Does the job with the text that was read. `Memory` comes where memory was wanting: before anything was written, or with
-/// a proper prefix of the text that is defined.
+/// Does the job with the text that was read. `Memory` comes where memory was wanting: before anything was written, or
+/// with a proper prefix of the text that is defined.
 fn answer<K: Sink>(alloc: Global, job: &Job, bytes: &[u8], sink: &mut K) -> Status
     requires limit { IsLimit job.now.limit }
     requires bytes { length bytes.now ≤ most_text_bytes }
@@ -97,10 +97,10 @@ fn answer<K: Sink>(alloc: Global, job: &Job, bytes: &[u8], sink: &mut K) -> Stat
 ///   end.
 /// - `ReadFault` comes only where the source's count of faults rose in this call, and `TooLong` exactly where
 ///   4,194,305 bytes were taken; nothing is written then.
-/// - `WriteFault` comes only where the sink's count of faults rose in this call; a proper prefix of the text that is defined
-///   is written then. `Memory` comes where memory was wanting; nothing is written then, or a proper prefix.
-/// - With every answer but `ReadFault` the source's count of faults stays as it was, and with every answer but `WriteFault`
-///   the sink's: so where a whole text was written, no fault was counted.
+/// - `WriteFault` comes only where the sink's count of faults rose in this call; a proper prefix of the text that is
+///   defined is written then. `Memory` comes where memory was wanting; nothing is written then, or a proper prefix.
+/// - With every answer but `ReadFault` the source's count of faults stays as it was, and with every answer but
+///   `WriteFault` the sink's: so where a whole text was written, no fault was counted.
 pub fn run_still<S: Source, K: Sink>(
     alloc: Global,
     job: &Job,
@@ -119,13 +119,15 @@ pub fn run_still<S: Source, K: Sink>(
         → WritesDefined job.now bytes (K.written sink.old) (K.written sink.new) result ⊎ (result ≡ Status.Memory) }
 
     // The same of the bytes that the reads of this call gave, which every source tells.
-    ensures as_given { EndsAsGiven job.now (S.given source.old) (S.given source.new) (K.written sink.old) (K.written sink.new) result }
+    ensures as_given { EndsAsGiven job.now (S.given source.old) (S.given source.new)
+        (K.written sink.old) (K.written sink.new) result }
     ensures ended { IsOfWholeText result → S.has_ended source.new }
 
     ensures read_to_end { IsOfWholeText result → IsAtEnd (S.left source.new) }
     ensures read_fault { result ≡ Status.ReadFault → HasRisen (S.faults source.old) (S.faults source.new) }
     ensures too_long { (n : ℕ) × TakesBytes (S.left source.old) (S.left source.new) n × (n ≤ most_text_bytes + 1)
         × (result ≡ Status.TooLong ↔ (n ≡ most_text_bytes + 1)) }
+    ensures gives { Gives (S.given source.old) (S.given source.new) (most_text_bytes + 1) (result ≡ Status.TooLong) }
     ensures nothing_written { (result ≡ Status.ReadFault) ⊎ (result ≡ Status.TooLong) → K.written sink.new ≡ K.written sink.old }
     ensures write_fault { result ≡ Status.WriteFault → HasRisen (K.faults sink.old) (K.faults sink.new) }
     ensures no_read_fault { result ≢ Status.ReadFault → S.faults source.new ≡ S.faults source.old }

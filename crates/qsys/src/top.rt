@@ -3,7 +3,7 @@
 ghost use Rattle.std.specs.Prelude.{◌≡◌, ◌≢◌, ◌⊎◌, ◌↔◌, ◌+◌, ◌≤◌, ℕ, List, Some, length, map};
 ghost use Rattle.std.specs.Io.KnownBytes.{IsAtEnd, append_known};
 ghost use Rattle.std.specs.String.{string_bytes};
-ghost use Rattle.qs_io.specs.Devices.{AppendsProperPrefix, HasRisen, TakesBytes};
+ghost use Rattle.qs_io.specs.Devices.{AppendsProperPrefix, Gives, HasRisen, TakesBytes};
 ghost use Rattle.qs_io.specs.Limits.{most_text_bytes};
 ghost use Rattle.qsys.specs.declared.job.Job.{Job};
 ghost use Rattle.qsys.specs.Texts.{usage_line};
@@ -74,6 +74,7 @@ pub fn qsys<S: Source, K: Sink>(
     ensures read_fault { result ≡ Status.ReadFault → HasRisen (S.faults source.old) (S.faults source.new) }
     ensures too_long { (n : ℕ) × TakesBytes (S.left source.old) (S.left source.new) n × (n ≤ most_text_bytes + 1)
         × (result ≡ Status.TooLong ↔ (n ≡ most_text_bytes + 1)) }
+    ensures gives { Gives (S.given source.old) (S.given source.new) (most_text_bytes + 1) (result ≡ Status.TooLong) }
     ensures nothing_written { (result ≡ Status.ReadFault) ⊎ (result ≡ Status.TooLong) → K.written sink.new ≡ K.written sink.old }
     ensures write_fault { result ≡ Status.WriteFault → HasRisen (K.faults sink.old) (K.faults sink.new) }
     // So where a whole text was written, the usage line or another, no fault was counted.

@@ -1,6 +1,9 @@
-use Rattle.std.proofs.Common.{◌∙◌, ap, arith}
+use Rattle.std.proofs.Common.{◌≡◌, ◌+◌, ℕ, List, ◌∙◌, ap, arith, subst}
+use Rattle.qs_io.specs.Devices.{Gives}
+use Rattle.qs_io.specs.Limits.{most_text_bytes}
 use Rattle.qs_io.specs.Standard.{OverReader, OverWriter}
 use Rattle.qs_io.specs.TracedSinks.{Traced}
+use Rattle.qsys.specs.declared.status.Status.TheVariants.{TooLong}
 use Rattle.qsys.proofs.FromTheFirst.{from_the_first, only_memory, risen}
 use Rattle.qsys.proofs.over.run_over.Goals as goal
 
@@ -17,6 +20,11 @@ returns-clause-complete g c = λ job is few no_read_fault no_write_fault.
     only_memory job c.qsys-status.new.source.given _ _ c.qsys-status.result (returns-clause-headline g c job is) few
     (λ bad. let rose = risen _ _ none_read (c.qsys-status.ensures.read_fault bad) in omega (arith, rose, no_read_fault))
     (λ bad. let rose = risen _ _ none_written (c.qsys-status.ensures.write_fault bad) in omega (arith, rose, no_write_fault))
+
+pub returns-clause-gives : goal.returns-clause-gives
+returns-clause-gives g c =
+    subst (λ (before : List ℕ). Gives before c.qsys-status.new.source.given (most_text_bytes + 1) (c.qsys-status.result ≡ TooLong))
+    (ap (λ (s : OverReader _). s.given) c.new-source.ensures) c.qsys-status.ensures.gives
 
 pub returns-clause-read_fault : goal.returns-clause-read_fault
 returns-clause-read_fault g c = λ bad. risen _ _ (ap (λ (s : OverReader _). s.faults) c.new-source.ensures) (c.qsys-status.ensures.read_fault bad)
