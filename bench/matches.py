@@ -12,16 +12,16 @@ import sys
 
 from proved_test import build, least
 
-NOTHING = "tests::lists_of_different_length_have_no_match"
+NOTHING = "match_tests::lists_of_different_length_have_no_match"
 CASES = [
-    ("A(U*,V*)     300 subtrees", "tests::two_forest_variables_share_three_hundred_subtrees", 301),
-    ("A(U*,V*,W*)   60 subtrees", "tests::three_forest_variables_share_sixty_subtrees", 1891),
+    ("A(U*,V*)     300 subtrees", "match_tests::two_forest_variables_share_three_hundred_subtrees", 301),
+    ("A(U*,V*,W*)   60 subtrees", "match_tests::three_forest_variables_share_sixty_subtrees", 1891),
 ]
 
 
 def main():
     runs = int(sys.argv[1]) if len(sys.argv) > 1 else 5
-    tests = build("qs_match")
+    tests = build("qs_machine_tests")
     nothing = least(tests, NOTHING, runs)
     first = None
     print("pattern and node            matches  milliseconds  each, as a ratio")

@@ -10,13 +10,13 @@ import sys
 
 from proved_test import build, least
 
-NAME = "tests::four_mebibytes_are_one_label_or_no_token_or_as_many_tokens"
+NAME = "token_tests::four_mebibytes_are_one_label_or_no_token_or_as_many_tokens"
 BYTES = 3 * 4194304
 
 
 def main():
     runs = int(sys.argv[1]) if len(sys.argv) > 1 else 3
-    taken = least(build("qs_lex"), NAME, runs)
+    taken = least(build("qs_text_tests"), NAME, runs)
     print("%.3f seconds, %.1f nanoseconds for each byte" % (taken, taken / BYTES * 1e9))
 
 

@@ -1,0 +1,15 @@
+//! Tests of the values that rules act on: labels and trees, variables and substitutions, graphs, firings and matches.
+#![tactic(auto)]
+
+#[cfg(test)]
+mod firing_tests;
+#[cfg(test)]
+mod graph_tests;
+#[cfg(test)]
+mod match_tests;
+#[cfg(test)]
+mod reading;
+#[cfg(test)]
+mod rule_tests;
+#[cfg(test)]
+mod tree_tests;

@@ -1,0 +1,12 @@
+//! Tests of how texts are read: what only calls show of tokens, of rules and chains with their bytes, and of decks with the
+//! numbers of their labels.
+#![tactic(auto)]
+
+#[cfg(test)]
+mod deck_tests;
+#[cfg(test)]
+mod graph_tests;
+#[cfg(test)]
+mod rule_tests;
+#[cfg(test)]
+mod token_tests;
