@@ -3,7 +3,6 @@ pub mod Leavings
 pub mod Findings
 pub mod Following
 pub mod Refusing
-pub mod TestRules
 pub mod Choosing
 pub mod Paths
 pub mod Extending

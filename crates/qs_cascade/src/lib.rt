@@ -11,6 +11,3 @@ mod stage;
 
 pub use stage::{StageEnd, stage_alone};
 pub use std::alloc::AllocError as Memory;
-
-#[cfg(test)]
-mod tests;

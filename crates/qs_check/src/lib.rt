@@ -8,8 +8,3 @@ pub mod laws;
 
 pub use checking::{CheckEnd, check};
 pub use std::alloc::AllocError as Memory;
-
-#[cfg(test)]
-mod tests;
-#[cfg(test)]
-mod text_tests;

@@ -12,8 +12,6 @@ pub mod Kept
 pub mod Renumbered
 pub mod Closures
 pub mod Whole
-pub mod NoRules
-pub mod TestClosures
 pub mod Fewer
 pub mod MarkDecisions
 pub mod Leaving

@@ -9,6 +9,3 @@ mod links;
 
 pub use cleaning::clean;
 pub use std::alloc::AllocError as Memory;
-
-#[cfg(test)]
-mod tests;

@@ -21,8 +21,3 @@ pub use std::alloc::AllocError as Memory;
 pub use system::System;
 pub use writing::write_deck;
 pub use written::{RawDeck, RawSystem};
-
-#[cfg(test)]
-mod reading_tests;
-#[cfg(test)]
-mod tests;

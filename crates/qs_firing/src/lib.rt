@@ -13,6 +13,3 @@ pub use firing::Firing;
 pub use key::order;
 pub use std::alloc::AllocError as Memory;
 pub use view::View;
-
-#[cfg(test)]
-mod tests;

@@ -12,6 +12,3 @@ pub use edge::Edge;
 pub use graph::Graph;
 pub use making::GraphEnd;
 pub use std::alloc::AllocError as Memory;
-
-#[cfg(test)]
-mod tests;

@@ -24,8 +24,3 @@ pub use making::graph_of;
 pub use reading::read_chains;
 pub use std::alloc::AllocError as Memory;
 pub use writing::write_graph;
-
-#[cfg(test)]
-mod graph_tests;
-#[cfg(test)]
-mod tests;

@@ -26,6 +26,3 @@ pub use traced_sink::TracedSink;
 pub use transfer::{
     MAX_TEXT_BYTES, ReadEnd, WriteFault, max_text_bytes_is_the_most, read_all, write_all,
 };
-
-#[cfg(test)]
-mod tests;

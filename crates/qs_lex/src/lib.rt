@@ -27,8 +27,6 @@ mod nesting;
 mod places;
 mod refusal;
 mod scanner;
-#[cfg(test)]
-mod tests;
 mod token;
 
 pub use labels::label_text;

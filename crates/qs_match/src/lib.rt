@@ -10,6 +10,3 @@ mod search;
 
 pub use matches::all_matches;
 pub use std::alloc::AllocError as Memory;
-
-#[cfg(test)]
-mod tests;

@@ -3,7 +3,6 @@ pub mod PatternLemmas
 pub mod ConditionLemmas
 pub mod FirstOccurrences
 pub mod HoldingLemmas
-pub mod TestConditions
 pub mod SubstitutionLemmas
 pub mod VariableLemmas
 pub mod Reading

@@ -23,6 +23,3 @@ pub use rule::Rule;
 pub use std::alloc::AllocError as Memory;
 pub use subst::{Subst, Value};
 pub use variable::{Var, VarClass};
-
-#[cfg(test)]
-mod tests;

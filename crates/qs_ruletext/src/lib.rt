@@ -26,6 +26,3 @@ pub use rules::read_rules;
 pub use sides::label_of;
 pub use std::alloc::AllocError as Memory;
 pub use writing::write_rule;
-
-#[cfg(test)]
-mod tests;

@@ -3,4 +3,3 @@ pub mod Keeps
 pub mod GivingBack
 pub mod NewPasses
 pub mod Closing
-pub mod Counting

@@ -7,8 +7,6 @@
 #![tactic(auto)]
 
 mod protocol;
-#[cfg(test)]
-mod tests;
 mod told;
 mod turns;
 

@@ -64,10 +64,3 @@ fn main(rt: HostRuntime) -> ExitCode {
     };
     exit_code(status)
 }
-
-#[cfg(test)]
-mod tests;
-#[cfg(test)]
-mod tests_run;
-#[cfg(test)]
-mod tests_words;
