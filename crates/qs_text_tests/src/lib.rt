@@ -1,5 +1,5 @@
-//! Tests of how texts are read: what only calls show of tokens, of rules and chains with their bytes, and of decks with the
-//! numbers of their labels.
+//! Tests of how texts are read: what only calls show of tokens, of rules and chains with their bytes, and of decks with
+//! the numbers of their labels.
 #![tactic(auto)]
 
 #[cfg(test)]

@@ -1,7 +1,7 @@
 //! Laws of the words, over their definition alone.
 
 ghost use Rattle.std.specs.Prelude.{◌≡◌, ◌⊎◌, ℕ, List, [], ◌∷◌, codes};
-ghost use Rattle.qsys.specs.declared.job.Command.TheVariants.{Run};
+ghost use Rattle.qsys.specs.declared.job.Command.TheVariants.{Run, Check, Graph};
 ghost use Rattle.qsys.specs.declared.job.Job.{Job};
 ghost use Rattle.qsys.specs.Words.{AreRefused, IsJobOf};
 
@@ -21,6 +21,18 @@ pub fn words_written_out()
     ensures alone { IsJobOf (codes "run" ∷ []) (record { command = Run; limit = 10000; workers = 4; size = 8 }) }
     ensures limited { IsJobOf (codes "run" ∷ codes "--limit" ∷ codes "5" ∷ []) (record { command = Run; limit = 5; workers = 4; size = 8 }) }
     ensures in_front { IsJobOf (codes "--size=0" ∷ codes "--workers" ∷ codes "8" ∷ codes "run" ∷ []) (record { command = Run; limit = 10000; workers = 8; size = 0 }) }
+    ensures least_workers { IsJobOf (codes "run" ∷ codes "--workers" ∷ codes "1" ∷ [])
+        (record { command = Run; limit = 10000; workers = 1; size = 8 }) }
+    ensures greatest_size { IsJobOf (codes "run" ∷ codes "--size" ∷ codes "13" ∷ [])
+        (record { command = Run; limit = 10000; workers = 4; size = 13 }) }
+    ensures minus_zero { IsJobOf (codes "run" ∷ codes "--size=-0" ∷ [])
+        (record { command = Run; limit = 10000; workers = 4; size = 0 }) }
+    ensures all_options { IsJobOf (codes "--size" ∷ codes "1" ∷ codes "run" ∷ codes "--workers=2" ∷ codes "--limit" ∷ codes "3" ∷ [])
+        (record { command = Run; limit = 3; workers = 2; size = 1 }) }
+    ensures check { IsJobOf (codes "check" ∷ [])
+        (record { command = Check; limit = 10000; workers = 4; size = 8 }) }
+    ensures graph { IsJobOf (codes "graph" ∷ codes "--limit" ∷ codes "3" ∷ [])
+        (record { command = Graph; limit = 3; workers = 4; size = 8 }) }
     ensures no_words { AreRefused [] }
     ensures unknown { AreRefused (codes "walk" ∷ []) }
     ensures too_few { AreRefused (codes "run" ∷ codes "--limit" ∷ codes "0" ∷ []) }

@@ -15,6 +15,30 @@ pub returns-clause-in_front : goal.returns-clause-in_front
 unfolding clap_on_literals job_of simple_command
 returns-clause-in_front c = refl
 
+pub returns-clause-least_workers : goal.returns-clause-least_workers
+unfolding clap_on_literals job_of simple_command
+returns-clause-least_workers c = refl
+
+pub returns-clause-greatest_size : goal.returns-clause-greatest_size
+unfolding clap_on_literals job_of simple_command
+returns-clause-greatest_size c = refl
+
+pub returns-clause-minus_zero : goal.returns-clause-minus_zero
+unfolding clap_on_literals job_of simple_command
+returns-clause-minus_zero c = refl
+
+pub returns-clause-all_options : goal.returns-clause-all_options
+unfolding clap_on_literals job_of simple_command
+returns-clause-all_options c = refl
+
+pub returns-clause-check : goal.returns-clause-check
+unfolding clap_on_literals job_of simple_command
+returns-clause-check c = refl
+
+pub returns-clause-graph : goal.returns-clause-graph
+unfolding clap_on_literals job_of simple_command
+returns-clause-graph c = refl
+
 pub returns-clause-no_words : goal.returns-clause-no_words
 unfolding clap_on_literals job_of simple_command
 returns-clause-no_words c = refl
