@@ -1,9 +1,10 @@
 #!/usr/bin/env python3
 """decks.py PROGRAM FILE..: runs the program on each case of the files, and looks at the bytes that it writes and at its status.
+It writes nothing on standard error.
 
 A file has templates and cases. An empty line, or one that begins with '#', says nothing. A template is
 
-    template NAME      and behind it its lines, each as '< LINE', of which one or more have a '%'
+    template NAME      and behind it its lines, each as '< LINE', which may have a '%'
 
 and a case is
 
@@ -24,7 +25,7 @@ is PIECE for each number from M to N, which stands for '~' in it, and the next n
 Lines of devices:
 
     input fails        each read fails (standard input is /proc/self/mem)
-    input breaks       the bytes can be read, and a read behind them fails (standard input is a terminal that was hung up)
+    input breaks       the bytes can be read, and a read behind them fails (standard input is a connection that was reset)
     input unread       nothing was read
     output full        each write fails (standard output is /dev/full)
     output takes N     N bytes can be written, and a write behind them fails
@@ -41,7 +42,6 @@ import socket
 import subprocess
 import sys
 import tempfile
-import tty
 
 
 def spelled(line):
@@ -152,11 +152,11 @@ def standard_input(text, how):
     if how == ["fails"]:
         return os.open("/proc/self/mem", os.O_RDONLY)
     if how == ["breaks"]:
-        near, far = os.openpty()
-        tty.setraw(far)
-        os.write(far, text)
-        os.close(far)
-        return near
+        near, far = socket.socketpair()
+        near.sendall(b"unread")
+        far.sendall(text)
+        far.close()
+        return near.detach()
     file = tempfile.TemporaryFile()
     file.write(text)
     file.seek(0)
@@ -193,6 +193,8 @@ def call(program, words, text, devices):
         wrong = None
         if given == ["unread"] and os.lseek(source, 0, os.SEEK_CUR) != 0:
             wrong = "the text was read"
+        if done.stderr:
+            wrong = "on standard error: " + short(done.stderr)
     finally:
         os.close(source)
         os.close(sink)
