@@ -1,5 +1,6 @@
 use qs_io::{
-    MemSink, MemSource, ReadEnd, StdSink, StdSource, SureSource, WriteFault, read_all, write_all,
+    MemSink, MemSource, ReadEnd, StdSink, StdSource, SureSource, TracedSink, WriteFault, read_all,
+    write_all,
 };
 use std::io;
 use std::io::{Read, Write};
@@ -108,10 +109,24 @@ fn a_slice_is_read_and_a_vector_written(rt: HostRuntime) -> Result<(), Fail> {
 }
 
 #[test]
+fn a_traced_sink_writes_what_the_sink_below_it_takes(rt: HostRuntime) -> Result<(), Fail> {
+    let mut bytes = Vec::new(rt.alloc());
+    let mut sink = TracedSink::new(StdSink::new(&mut bytes));
+    assert_eq!(rt; write_all(&mut sink, TEXT), Ok(()));
+    assert_eq!(rt; bytes.as_slice(), TEXT);
+    let mut sink = TracedSink::new(StdSink::new(failing_at(1, 1)));
+    assert_eq!(rt; write_all(&mut sink, TEXT), Err(WriteFault));
+    Ok(())
+}
+
+#[test]
 fn an_error_or_a_write_of_nothing_is_a_fault(rt: HostRuntime) -> Result<(), Fail> {
     let text = read_all(rt.alloc(), &mut StdSource::new(failing_at(1, 1)));
     assert_eq!(rt; text.err(), Some(ReadEnd::Fault));
-    assert_eq!(rt; write_all(&mut StdSink::new(failing_at(1, 1)), TEXT), Err(WriteFault));
+    assert_eq!(rt;
+        write_all(&mut StdSink::new(failing_at(1, 1)), TEXT),
+        Err(WriteFault)
+    );
     let mut full = [0; 7];
     assert_eq!(rt;
         write_all(&mut StdSink::new(full.as_mut_slice()), TEXT),

@@ -80,7 +80,7 @@ fn copies_of_a_graph_and_of_its_arcs_are_equal(rt: HostRuntime) -> Result<(), Fa
         alloc,
         "-SYSTEME- S. -GRAPHE- -2- A(B,C(D)) + E -1-. -2- F -4-. -4- G(H) -1-. -FIN-",
     )?;
-    let copy = deck.graph.copy(alloc)?;
+    let copy = deck.graph.copy()?;
     assert_eq!(rt; (copy.nodes(), copy.entry(), copy.exit()), (4, 2, 1));
     assert_eq!(rt; copy.edges().len(), 4);
     for (edge, other) in arcs_of(&deck).iter().zip(copy.edges()) {

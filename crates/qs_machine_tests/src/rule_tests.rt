@@ -79,11 +79,11 @@ fn a_copy_of_a_rule_has_its_sides_and_its_condition(rt: HostRuntime) -> Result<(
     let [doubled, kept] = rules_of(&deck)? else {
         return Err(Fail::new("another number of rules"));
     };
-    let doubled = doubled.copy(alloc)?;
+    let doubled = doubled.copy()?;
     assert_eq!(rt; (doubled.left().len(), doubled.right().len()), (1, 2));
     assert!(rt; matches!(doubled.left()[0], Pattern::Tree(var) if var == I));
     assert!(rt; doubled.cond().is_none());
-    let kept = kept.copy(alloc)?;
+    let kept = kept.copy()?;
     assert!(rt; matches!(kept.cond(), Some(Cond::Outside { .. })));
     Ok(())
 }

@@ -5,7 +5,9 @@ ghost use Rattle.qs_tree.specs.Trees.{node};
 ghost use Rattle.qs_tree.specs.Cells.{IsTree, tree_of};
 ghost use Rattle.qs_tree.specs.Text.{IsNamed};
 
-use qs_tree::{Cell, Forest, Label, Memory, Names, Tree, TreeRef, same, same_forest, write_label, write_tree};
+use qs_tree::{
+    Cell, Forest, Label, Memory, Names, Tree, TreeRef, same, same_forest, write_label, write_tree,
+};
 use std::alloc::Global;
 use std::test::Fail;
 

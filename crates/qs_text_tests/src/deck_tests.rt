@@ -40,8 +40,14 @@ fn a_label_has_the_number_of_its_first_occurrence(rt: HostRuntime) -> Result<(),
     let text = "# Z\n-SYSTEME- \"S\".\nB + A*(I*) == \"B\"(\"\",A) / C -DANS- I*,\"a\"\"b\".\n\
                 -SYSTEME- S.\n-SYSTEME- \"A\".\n-GRAPHE-\n-1- É + \"É\"(B,\"S\",D) -2-.\n-FIN-\n# Y";
     let deck = answer(alloc, text)??;
-    assert_eq!(rt; names_of(alloc, &deck)?.as_str(), "S\nB\n\nA\nC\na\"b\nÉ\nD\n");
-    assert_eq!(rt; numbers_of(alloc, &deck)?.as_slice(), [0, 1, 0, 0, 3, 0, 2].as_slice());
+    assert_eq!(rt;
+        names_of(alloc, &deck)?.as_str(),
+        "S\nB\n\nA\nC\na\"b\nÉ\nD\n"
+    );
+    assert_eq!(rt;
+        numbers_of(alloc, &deck)?.as_slice(),
+        [0, 1, 0, 0, 3, 0, 2].as_slice()
+    );
     Ok(())
 }
 
@@ -52,7 +58,10 @@ fn grammars_have_their_rules(rt: HostRuntime) -> Result<(), Fail> {
         "-SYSTEME- A. A == B. B + A == \"A\".\n-SYSTEME- É.\n-GRAPHE- -1- A -2-. -2- B -3-. -FIN-";
     let deck = answer(alloc, text)??;
     assert_eq!(rt; names_of(alloc, &deck)?.as_str(), "A\nB\nÉ\n");
-    assert_eq!(rt; numbers_of(alloc, &deck)?.as_slice(), [0, 2, 2, 0, 2].as_slice());
+    assert_eq!(rt;
+        numbers_of(alloc, &deck)?.as_slice(),
+        [0, 2, 2, 0, 2].as_slice()
+    );
     Ok(())
 }
 
