@@ -17,5 +17,6 @@ pub fn order_is_strict_and_total()
 /// Within one graph, firings with equal keys are equal, where the rules have every variable of a left side at a place of
 /// its class, as accepted rules have.
 pub fn one_firing()
-    ensures { (R : List Rule) → AreLeftSidesInClass R → (arcs : List Arc) (f g : Firing) → Fires R arcs f → Fires R arcs g → key f ≡ key g → f ≡ g }
+    ensures { (R : List Rule) → AreLeftSidesInClass R → (arcs : List Arc) (f g : Firing)
+        → Fires R arcs f → Fires R arcs g → key f ≡ key g → f ≡ g }
 {}

@@ -6,8 +6,8 @@ use Rattle.qs_pattern.specs.Variables.{firsts}
 use Rattle.qs_pattern.specs.Patterns.{Patterns, count, cells, variables_in, AreInClass, NoForestAtTop}
 use Rattle.qs_pattern.specs.Conditions.{Condition, condition_cells, condition_variables, IsConditionInClass, HasEnoughMembers}
 
--- A rule adds, beside a path of trees that its left side stands for, a path of the trees that its right side stands for,
--- where its condition holds.
+-- A rule adds, beside a path of trees that its left side stands for, a path of the trees that its right side stands
+-- for, where its condition holds.
 pub record Rule : Type 0 where
   pub left : Patterns
   pub right : Patterns

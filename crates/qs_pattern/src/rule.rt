@@ -12,10 +12,10 @@ use crate::pattern::Pattern;
 use std::alloc::{AllocError, Global};
 use std::marker::Model;
 
-/// An accepted rule: the patterns of its left side, those of its right side, whose trees it adds on a path beside the one
-/// that its left side stands for, and maybe a condition. Each side has 1 to 16 patterns and no forest variable at its top,
-/// the rule has at most 256 labels and variables and at most 32 different variables, each variable of the right side and of
-/// the condition occurs in the left side, and the condition joins at least two wherever it joins.
+/// An accepted rule: the patterns of its left side, those of its right side, whose trees it adds on a path beside the
+/// one that its left side stands for, and maybe a condition. Each side has 1 to 16 patterns and no forest variable at
+/// its top, the rule has at most 256 labels and variables and at most 32 different variables, each variable of the
+/// right side and of the condition occurs in the left side, and the condition joins at least two wherever it joins.
 #[derive(Drop)]
 pub struct Rule {
     alloc: Global,

@@ -1,5 +1,5 @@
--- A cascade in two pieces: when its first grammars leave a graph, with which a cascade of the others can go on. This project's
--- own.
+-- A cascade in two pieces: when its first grammars leave a graph, with which a cascade of the others can go on. This
+-- project's own.
 use Rattle.std.specs.Prelude.{◌≡◌, ◌<◌, ℕ, List, [], ◌∷◌, ◌++◌, length, map, Option, Some, None}
 use Rattle.qs_tree.specs.Lists.{◌∈◌}
 use Rattle.qs_tree.specs.Names.{AreDistinct}
@@ -34,29 +34,31 @@ pub record Leaves (limit : ℕ) (names : List (List ℕ)) (graph : QGraph) (gram
 -- The name of each of these grammars, and each label in its rules, is one of the first n.
 abbrev pub AreGrammarsNamed : ℕ → List Grammar → Type 0
 AreGrammarsNamed n grammars =
-    (grammar : Grammar) → grammar ∈ grammars → (grammar.name.0 < n) × ((rule : Rule) → rule ∈ grammar.rules → IsRuleNamed n rule)
+    (grammar : Grammar) → grammar ∈ grammars
+    → (grammar.name.0 < n) × ((rule : Rule) → rule ∈ grammar.rules → IsRuleNamed n rule)
 
 -- No condition in these grammars compares an empty list. In a text none does.
-abbrev pub HaveFullLists : List Grammar → Type 0
-HaveFullLists grammars =
-    (grammar : Grammar) → grammar ∈ grammars → (rule : Rule) → rule ∈ grammar.rules → (c : Condition) → rule.condition ≡ Some c → HasFullLists c
+abbrev pub GrammarsHaveFullLists : List Grammar → Type 0
+GrammarsHaveFullLists grammars =
+    (grammar : Grammar) → grammar ∈ grammars → (rule : Rule) → rule ∈ grammar.rules
+    → (c : Condition) → rule.condition ≡ Some c → HasFullLists c
 
--- What is asked of a cascade that is run in two pieces, `front` and then `back`, with these names for labels: that the names
--- differ, and none of them holds the end of a line; that the rules are accepted, the graph is valid, and each label has a name;
--- and that `back` can be written.
+-- What is asked of a cascade that is run in two pieces, `front` and then `back`, with these names for labels: that the
+-- names differ, and none of them holds the end of a line; that the rules are accepted, the graph is valid, and each
+-- label has a name; and that `back` can be written.
 pub record CanBeCut (names : List (List ℕ)) (graph : QGraph) (front back : List Grammar) : Type 0 where
   pub names_differ : AreDistinct names
   pub names_on_one_line : AreOnOneLine names
   pub accepted : AreAccepted (front ++ back)
   pub named : AreGrammarsNamed (length names) (front ++ back)
-  pub full : HaveFullLists back
+  pub full : GrammarsHaveFullLists back
   pub valid : IsValid graph
   pub arcs_named : AreArcsNamed (length names) graph.arcs
 
--- Two pieces of a cascade from `graph`. The first piece is the grammars `front`: they leave the graph `left`, and `first` is
--- written for them. The second is the deck that is read from the text of the grammars `back` and of that graph, which is
--- accepted: it has names of its own, `others`, its grammars are `more` and its graph is `read`; `second` is written for its
--- cascade, which ends so. One limit is meant for both.
+-- Two pieces of a cascade from `graph`. The first piece is the grammars `front`: they leave the graph `left`, and
+-- `first` is written for them. The second is the deck that is read from the text of the grammars `back` and of that
+-- graph, which is accepted: it has names of its own, `others`, its grammars are `more` and its graph is `read`;
+-- `second` is written for its cascade, which ends so. One limit is meant for both.
 pub record TwoPieces : Type 0 where
   pub limit : ℕ
   pub names : List (List ℕ)
