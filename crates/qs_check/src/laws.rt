@@ -9,11 +9,13 @@ ghost use Rattle.qs_ruletext.specs.Rules.{ReadsWrittenRule};
 ghost use Rattle.qs_check.specs.Causes.{IsFirstCause};
 ghost use Rattle.qs_check.specs.Checking.{CanBeChecked};
 
-/// A rule has at most one first cause, at one cell, and none where it is accepted. One that can be checked has one or is accepted.
+/// A rule has at most one first cause, at one cell, and none where it is accepted. One that can be checked has one or
+/// is accepted.
 pub fn one_first_cause()
     ensures one_cause { (rule : Rule) (c d : Cause) (i j : ℕ) → IsFirstCause rule c i → IsFirstCause rule d j → c ≡ d }
     ensures one_place { (rule : Rule) (c d : Cause) (i j : ℕ) → IsFirstCause rule c i → IsFirstCause rule d j → i ≡ j }
-    ensures some { (raw : WrittenRule) → CanBeChecked raw → IsAccepted raw.rule ⊎ ((c : Cause) × (i : ℕ) × IsFirstCause raw.rule c i) }
+    ensures some { (raw : WrittenRule) → CanBeChecked raw
+        → IsAccepted raw.rule ⊎ ((c : Cause) × (i : ℕ) × IsFirstCause raw.rule c i) }
     ensures none_if_accepted { (rule : Rule) (c : Cause) (i : ℕ) → IsAccepted rule → IsFirstCause rule c i → ⊥ }
 {}
 

@@ -11,7 +11,9 @@ ghost use Rattle.qs_deck.specs.Texts.{deck_text};
 pub fn one_answer()
     ensures deck { (text : List ℕ) (names others : List (List ℕ)) (grammars more : List Grammar) (G H : QGraph) → IsDeckOf text names grammars G → IsDeckOf text others more H → (names ≡ others) × (grammars ≡ more) × (G ≡ H) }
     ensures refusal { (text : List ℕ) (r s : Refusal) → IsRefusalOf text r → IsRefusalOf text s → r ≡ s }
-    ensures some { (text : List ℕ) → ((names : List (List ℕ)) × (grammars : List Grammar) × (G : QGraph) × IsDeckOf text names grammars G) ⊎ ((r : Refusal) × IsRefusalOf text r) }
+    ensures some { (text : List ℕ)
+        → ((names : List (List ℕ)) × (grammars : List Grammar) × (G : QGraph) × IsDeckOf text names grammars G)
+        ⊎ ((r : Refusal) × IsRefusalOf text r) }
     ensures not_both { (text : List ℕ) (names : List (List ℕ)) (grammars : List Grammar) (G : QGraph) (r : Refusal) → IsDeckOf text names grammars G → IsRefusalOf text r → ⊥ }
 {}
 

@@ -14,10 +14,13 @@ ghost use Rattle.qs_graphtext.specs.declared.chain_end.ChainEnd.{ChainEnd};
 ghost use Rattle.qs_graphtext.specs.Texts.{AreArcsNamed, graph_text};
 ghost use Rattle.qs_graphtext.specs.ChainsOfArcs.{ReadsBack};
 
-/// Chains of which there is one and each is whole make a valid graph of at most 65,536 arcs, or they are refused for a cause.
+/// Chains, of which there is one at least, that are whole make a valid graph of at most 65,536 arcs, or they are
+/// refused for a cause other than want of memory.
 pub fn chains_make_a_graph_or_are_refused()
-    ensures { (chains : List WrittenChain) → 0 < length chains → ((chain : WrittenChain) → chain ∈ chains → IsWhole chain)
-        → (AreFew chains × IsValid (graph_of chains)) ⊎ ((end : ChainEnd) × (end ≡ ChainEnd.Memory → ⊥) × AreRefused chains end) }
+    ensures { (chains : List WrittenChain) → 0 < length chains
+        → ((chain : WrittenChain) → chain ∈ chains → IsWhole chain)
+        → (AreFew chains × IsValid (graph_of chains))
+        ⊎ ((end : ChainEnd) × (end ≡ ChainEnd.Memory → ⊥) × AreRefused chains end) }
 {}
 
 /// The trees on the arcs of a graph of chains are the trees of the chains, in their order.

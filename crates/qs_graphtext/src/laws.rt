@@ -20,8 +20,9 @@ pub fn what_is_read_is_whole()
 
 /// Law: the tokens that are a graph by the grammar are read as one, in names that have grown by the tokens.
 pub fn what_is_whole_is_read()
-    ensures { (text : List ℕ) (tokens rest : List Token) (old names : List (List ℕ)) → All (IsTokenOf text) tokens → NamesGrow text tokens old names
-        → IsWhole line (part graph) tokens rest → (chains : List WrittenChain) × ReadsGraph names text tokens chains rest }
+    ensures { (text : List ℕ) (tokens rest : List Token) (old names : List (List ℕ))
+        → All (IsTokenOf text) tokens → NamesGrow text tokens old names → IsWhole line (part graph) tokens rest
+        → (chains : List WrittenChain) × ReadsGraph names text tokens chains rest }
 {}
 
 /// Law: what is read as a graph makes one: there is a chain, each has a tree and a byte for each of its trees, and each of

@@ -1,6 +1,7 @@
 //! Chains and graphs, read from tokens.
 
-ghost use Rattle.std.specs.Prelude.{◌≡◌, ℕ, ◌^◌, ◌+◌, ◌<◌, ◌≤◌, List, IfOk, IfErr, IsErr, [], ◌∷◌, length, drop, IsTrue, IsFalse};
+ghost use Rattle.std.specs.Prelude.{◌≡◌, ℕ, ◌^◌, ◌+◌, ◌<◌, ◌≤◌, List, [], ◌∷◌, length, drop, IsTrue, IsFalse};
+ghost use Rattle.std.specs.Prelude.{IfOk, IfErr, IsErr};
 ghost use Rattle.qs_lex.specs.declared.token.Token.{Token};
 ghost use Rattle.qs_lex.specs.Tokens.{AreTokensOf};
 ghost use Rattle.qs_lex.specs.Nesting.{IsTooDeep};
@@ -167,7 +168,8 @@ pub fn read_chains(
 
     // Tokens that can't go on to a graph are refused, and a whole graph is read, if memory lasts.
     ensures faulty { (at : ℕ) → CannotGoOn tokens.now from at → IsErr result }
-    ensures faultless { (rest : List Token) → IsWhole line (part graph) (drop from tokens.now) rest → IfErr result (λ end. end ≡ TextEnd.Memory) }
+    ensures faultless { (rest : List Token) → IsWhole line (part graph) (drop from tokens.now) rest
+        → IfErr result (λ end. end ≡ TextEnd.Memory) }
 
     // The labels.
     ensures keeps { KeepsNames names.old names.new }

@@ -22,15 +22,18 @@ pub fn what_is_read_is_whole()
 
 /// What is whole by the grammar is read, in names that have grown by the tokens.
 pub fn what_is_whole_is_read()
-    ensures { (text : List ℕ) (ts rest : List Token) (old names : List (List ℕ)) → All (IsTokenOf text) ts → NamesGrow text ts old names
-        → IsWhole line (part rule) ts rest → (raw : WrittenRule) × ReadsWrittenRule names text ts raw rest }
+    ensures { (text : List ℕ) (ts rest : List Token) (old names : List (List ℕ))
+        → All (IsTokenOf text) ts → NamesGrow text ts old names → IsWhole line (part rule) ts rest
+        → (raw : WrittenRule) × ReadsWrittenRule names text ts raw rest }
 {}
 
-/// From the same names the same tokens of a text lead to one list of names, and they always lead to one. No text stands in it twice if none did before. Where some
-/// tokens stand behind others, the names grow by the first and then by those behind them.
+/// From the same names the same tokens lead to one list of names, and tokens of a text always lead to one. No text
+/// stands in it twice if none did before. Where some tokens stand behind others, the names grow by the first and then by
+/// those behind them.
 pub fn names_grow_to_one()
     ensures one { (text : List ℕ) (ts : List Token) (old new other : List (List ℕ)) → NamesGrow text ts old new → NamesGrow text ts old other → new ≡ other }
-    ensures some { (text : List ℕ) (ts : List Token) (old : List (List ℕ)) → All (IsTokenOf text) ts → (new : List (List ℕ)) × NamesGrow text ts old new }
+    ensures some { (text : List ℕ) (ts : List Token) (old : List (List ℕ)) → All (IsTokenOf text) ts
+        → (new : List (List ℕ)) × NamesGrow text ts old new }
     ensures distinct { (text : List ℕ) (ts : List Token) (old new : List (List ℕ)) → AreDistinct old → NamesGrow text ts old new → AreDistinct new }
     ensures together { (text : List ℕ) (xs ys : List Token) (old middle new : List (List ℕ)) → NamesGrow text xs old middle → NamesGrow text ys middle new → NamesGrow text (xs ++ ys) old new }
     ensures apart { (text : List ℕ) (xs ys : List Token) (old new : List (List ℕ)) → NamesGrow text (xs ++ ys) old new → (middle : List (List ℕ)) × NamesGrow text xs old middle × NamesGrow text ys middle new }

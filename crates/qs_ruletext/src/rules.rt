@@ -1,6 +1,7 @@
 //! Rules, read from tokens.
 
-ghost use Rattle.std.specs.Prelude.{◌≡◌, ℕ, ◌^◌, ◌+◌, ◌-◌, ◌<◌, ◌≤◌, IfOk, IfErr, IsErr, Some, [], ◌∷◌, length, drop, option_map};
+ghost use Rattle.std.specs.Prelude.{◌≡◌, ℕ, ◌^◌, ◌+◌, ◌-◌, ◌<◌, ◌≤◌, Some, [], ◌∷◌, length, drop, option_map};
+ghost use Rattle.std.specs.Prelude.{IfOk, IfErr, IsErr};
 ghost use Rattle.std.specs.List.{All};
 ghost use Rattle.qs_lex.specs.declared.token.Token.{Token};
 ghost use Rattle.qs_lex.specs.declared.token.Word.TheVariants.{Et, Ou};
@@ -133,9 +134,11 @@ pub fn read_rules(
     ensures names { IfOk result (λ found. NamesGrow text.now (between tokens.now from found.1) names.old names.new) }
     ensures few { IfOk result (λ found. length names.new + from ≤ length names.old + found.1) }
     ensures ends { IfErr result (EndsFrom tokens.now from) }
-    // A rule that was begun and can't go on is refused, and whole rules behind which none begins are read, if memory lasts.
+    // A rule that was begun and can't go on is refused, and whole rules behind which none begins are read, if memory
+    // lasts.
     ensures faulty { (at : ℕ) → CannotGoOn tokens.now from at → IsErr result }
-    ensures faultless { (to : ℕ) → IsWhole line (repeated (part rule)) (drop from tokens.now) (drop to tokens.now) → NoRuleAt tokens.now to → IfErr result (λ end. end ≡ TextEnd.Memory) }
+    ensures faultless { (to : ℕ) → IsWhole line (repeated (part rule)) (drop from tokens.now) (drop to tokens.now)
+        → NoRuleAt tokens.now to → IfErr result (λ end. end ≡ TextEnd.Memory) }
 {
     let mut rules = Vec::new(alloc);
     let mut rest = &tokens[from..];

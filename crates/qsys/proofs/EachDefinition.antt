@@ -1,5 +1,5 @@
 -- For each job and all bytes a text is defined, with its status.
-use Rattle.std.proofs.Common.{◌≡◌, ℕ, List, refl, ⊎_elim, inl, inr}
+use Rattle.std.proofs.Common.{ℕ, List, refl, ⊎_elim, inl, inr}
 use Rattle.std.specs.Prelude.{◌⊎◌}
 use Rattle.qs_lex.specs.declared.refusal.Refusal.{Refusal}
 use Rattle.qs_graph.specs.Graphs.{QGraph}

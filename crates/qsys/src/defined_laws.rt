@@ -22,8 +22,10 @@ pub fn one_outcome()
 
 /// For each job and all bytes one text is defined, with one status.
 pub fn one_definition()
-    ensures some { (job : Job) (bytes : List ℕ) → (text : List ℕ) × (status : Status) × IsDefined job bytes text status }
-    ensures one { (job : Job) (bytes t u : List ℕ) (s r : Status) → IsDefined job bytes t s → IsDefined job bytes u r → (t ≡ u) × (s ≡ r) }
+    ensures some { (job : Job) (bytes : List ℕ)
+        → (text : List ℕ) × (status : Status) × IsDefined job bytes text status }
+    ensures one { (job : Job) (bytes t u : List ℕ) (s r : Status)
+        → IsDefined job bytes t s → IsDefined job bytes u r → (t ≡ u) × (s ≡ r) }
 {
     one_answer();
     one_outcome();
