@@ -1,4 +1,4 @@
--- Arcs have a cycle or none, and a graph has exactly one entry and one exit or it hasn't: so chains make a valid graph or are refused.
+-- Whether arcs have a cycle, and whether a graph has exactly one entry and exactly one exit.
 use Rattle.std.proofs.Common.{◌≡◌, ◌≢◌, ◌⊎◌, ℕ, zero, suc, ◌≤◌, Some, slice_get, List, [], ◌∷◌, ◌++◌, map, refl, sym, ◌∙◌, ap, subst, inl, inr, ⊎_elim, arith, length-append}
 use Rattle.std.proofs.lemmas.Bool.{cases_lt}
 use Rattle.qs_tree.specs.Lists.{◌∈◌}
@@ -18,7 +18,7 @@ record IsArc (arcs : List Arc) (a b : ℕ) : Type 0 where
   from : arc.from ≡ a
   to : arc.to ≡ b
 
--- a path from a to b that goes through these nodes only, and through each once at most
+-- a path from a to b that goes through these nodes only: not through the first of them, or up to it and on from it
 abbrev Goes : List Arc → List ℕ → ℕ → ℕ → Type 0
 Goes arcs [] a b = IsArc arcs a b
 Goes arcs (n ∷ ns) a b = Goes arcs ns a b ⊎ (Goes arcs ns a n × Goes arcs ns n b)

@@ -44,7 +44,7 @@ at_number (the_word Non) = refl
 same_is : (s k : Sort) → same_sort s k ≡ true → k ≡ s
 same_is s k e = sym (at_number k) ∙ ap sort_at (sym (eqb-true (number_of s) (number_of k) e)) ∙ at_number s
 
--- a whole form leaves no more tokens than there were, and fewer where it can't be empty
+-- a whole form leaves no more tokens than there were
 whole_shorter : {Part : Type 0} {line : Grammar Part} {f : Form Part} {ts rest : List Token} → IsWhole line f ts rest → length rest ≤ length ts
 whole_shorter (whole_token e) = omega arith
 whole_shorter (whole_part w) = whole_shorter w
@@ -56,7 +56,7 @@ whole_shorter (not_left_out w) = whole_shorter w
 whole_shorter no_more = omega arith
 whole_shorter (one_more w v) = omega (arith, whole_shorter w, whole_shorter v)
 
--- which of two tests the next token passes, or none
+-- the next token passes a test, or there is none that does
 fronts_or_not : (p : Sort → Bool) (ts : List Token) → Fronts p ts ⊎ NextIsNo p ts
 fronts_or_not p [] = inr tt
 fronts_or_not p (t ∷ ts) = by (p (sort_of t.kind)) refl
@@ -83,7 +83,7 @@ all_below rank n low (optional f) = all_below rank n low f
 all_below rank n low (repeated f) = all_below rank n low f
 
 module _ {Part : Type 0} {line : Grammar Part} (table more : Part → Sort → Bool) (ok : IsPredicted line table more) where
-  -- some tokens at the front are the form, and lead a reader to what it expects behind it; or it stops
+  -- the tokens before the rest are the form, and lead a reader to what it expects behind it
   record IsPassed (f : Form Part) (ts rest : List Token) : Type 0 where
     whole : IsWhole line f ts rest
     leads : (behind : List (Form Part)) → Refused table more f behind → Leads line (f ∷ behind) ts behind rest
@@ -147,6 +147,7 @@ module _ {Part : Type 0} {line : Grammar Part} (table more : Part → Sort → B
 
   -- where fewer tokens are decided, and as many are for the parts with which a form may begin
   module _ (rank : Part → ℕ) (m : ℕ) (fewer : (f : Form Part) → IsPredictive table more f → (ts : List Token) → length ts < m → IsDecided f ts) where
+    -- what can't be empty leaves fewer
     whole_fewer : {f : Form Part} {ts rest : List Token} → nullable f ≡ false → IsWhole line f ts rest → length rest < length ts
     whole_fewer some (whole_token e) = omega arith
     whole_fewer some (whole_part {name} w) = whole_fewer (ok.table_is.never_empty name) w

@@ -10,7 +10,7 @@ use Rattle.qs_lex.proofs.Predictive.{IsPredicted}
 use Rattle.qs_lex.proofs.Stopping.{front_of, closed_whole}
 use Rattle.qs_lex.proofs.Fronts.{front_begins}
 
--- of two fronts of a list one is a front of the other
+-- of two fronts of a list, with m and n behind them, the first is a front of the second
 abbrev Shorter : List Token → List Token → List Token → List Token → Type 0
 Shorter a b m n = (d : List Token) × (b ≡ a ++ d) × (m ≡ d ++ n)
 
