@@ -26,3 +26,5 @@ pub mod DecksAccepted
 -- That there is one.
 pub mod WholeRead
 pub mod EachText
+-- Made decks.
+pub mod MadeLemmas

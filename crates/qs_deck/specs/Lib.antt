@@ -9,8 +9,10 @@ pub mod Decks
 pub mod Named
 pub mod Refusals
 pub mod Texts
+pub mod MadeDecks
 -- No public contract cites these: what private functions promise, and how the logic tells written decks apart.
 pub mod Readers
 pub mod Checked
 pub mod Answers
 pub mod Codes
+pub mod MadeParts

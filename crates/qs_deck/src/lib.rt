@@ -10,6 +10,8 @@ mod checking;
 mod deck;
 mod decks;
 pub mod laws;
+mod made_decks;
+mod made_texts;
 mod reading;
 mod system;
 mod writing;
@@ -17,6 +19,8 @@ mod written;
 
 pub use deck::{Deck, DeckEnd};
 pub use decks::read_deck;
+pub use made_decks::made;
+pub use made_texts::made_deck;
 pub use std::alloc::AllocError as Memory;
 pub use system::System;
 pub use writing::write_deck;

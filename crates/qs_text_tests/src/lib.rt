@@ -7,6 +7,8 @@ mod deck_tests;
 #[cfg(test)]
 mod graph_tests;
 #[cfg(test)]
+mod made_tests;
+#[cfg(test)]
 mod rule_tests;
 #[cfg(test)]
 mod token_tests;
