@@ -1,37 +1,93 @@
 -- For each job and all bytes a text is defined, with its status.
-use Rattle.std.proofs.Common.{ℕ, List, refl, ⊎_elim, inl, inr}
+use Rattle.std.proofs.Common.{◌≡◌, ℕ, ◌+◌, ◌^◌, ◌<◌, List, [], ◌∷◌, length, map, refl, sym, subst, ⊎_elim, inl, inr, arith}
 use Rattle.std.specs.Prelude.{◌⊎◌}
+use Rattle.std.specs.List.{range_with_len}
+use Rattle.std.proofs.lemmas.Nat.{pow_pos}
+use Rattle.std.proofs.lemmas.List.FromFn.{length-map-range_with_len}
+use Rattle.qs_tree.specs.Lists.{◌∈◌}
+use Rattle.qs_tree.proofs.Members.{from_map}
 use Rattle.qs_lex.specs.declared.refusal.Refusal.{Refusal}
-use Rattle.qs_graph.specs.Graphs.{QGraph}
+use Rattle.qs_pattern.specs.Patterns.{no_pattern}
+use Rattle.qs_pattern.specs.Rules.{Rule, IsAccepted}
+use Rattle.qs_graph.specs.Graphs.{QGraph, IsValid}
+use Rattle.qs_graph.proofs.Lines.{line_valid}
+use Rattle.qs_clean.specs.Cascades.{Cascade, Left, a_graph, no_arc, over, Ending, all_done, by_limit, no_more, limit, empty, goes_on}
+use Rattle.qs_clean.proofs.CascadeExistence.{has_outcome}
 use Rattle.qs_graphtext.specs.Texts.{graph_text}
 use Rattle.qs_deck.specs.Decks.{Grammar, IsDeckOf}
 use Rattle.qs_deck.specs.Refusals.{IsRefusalOf}
 use Rattle.qs_deck.specs.Texts.{deck_text}
+use Rattle.qs_deck.specs.MadeDecks.{first_var, second_var, of_level, level_rule, made_grammar, word_tree, words, made_graph}
+use Rattle.qs_deck.proofs.MadeLemmas.{rule_accepted}
 use Rattle.qs_deck.proofs.DecksAccepted.{deck_accepted}
 use Rattle.qsys.specs.declared.status.Status.{Status}
-use Rattle.qsys.specs.declared.status.Status.TheVariants.{Done, Refused}
+use Rattle.qsys.specs.declared.status.Status.TheVariants.{Done, Limit, Refused}
 use Rattle.qsys.specs.declared.job.Command.{Command}
 use Rattle.qsys.specs.declared.job.Command.TheVariants as command
 use Rattle.qsys.specs.declared.job.Job.{Job}
 use Rattle.qsys.specs.Texts.{refusal_line}
-use Rattle.qsys.specs.Defined.{IsDefined, IsDone, status_of}
+use Rattle.qsys.specs.Defined.{IsDefined, of_refused, of_deck, of_made, Reads, IsDone, IsMadeOf, status_of, summary}
 use Rattle.qsys.proofs.GoingOn.{some_outcome}
 
 -- a text means a deck or is refused
 abbrev pub SomeAnswer : Type 0
 SomeAnswer = (text : List ℕ) → ((names : List (List ℕ)) × (grammars : List Grammar) × (G : QGraph) × IsDeckOf text names grammars G) ⊎ ((r : Refusal) × IsRefusalOf text r)
 
-some_done : (which : Command) (L : ℕ) (bytes : List ℕ) (names : List (List ℕ)) (grammars : List Grammar) (graph : QGraph) → IsDeckOf bytes names grammars graph
+-- what is done with a deck that was read
+
+some_done : (which : Command) → Reads which → (L : ℕ) (bytes : List ℕ) (names : List (List ℕ)) (grammars : List Grammar) (graph : QGraph) → IsDeckOf bytes names grammars graph
     → (text : List ℕ) × (status : Status) × IsDone which L names grammars graph text status
-some_done command.Run L bytes names grammars graph deck =
+some_done command.Run reads L bytes names grammars graph deck =
     let o = some_outcome L names graph grammars (deck_accepted deck) deck.valid in (o.0, status_of o.1, record { ending = o.1; outcome = o.2; status_is = refl })
-some_done command.Check L bytes names grammars graph deck = (deck_text names grammars graph, Done, record { text_is = refl; status_is = refl })
-some_done command.Graph L bytes names grammars graph deck = (graph_text names graph, Done, record { text_is = refl; status_is = refl })
+some_done command.Check reads L bytes names grammars graph deck = (deck_text names grammars graph, Done, record { text_is = refl; status_is = refl })
+some_done command.Graph reads L bytes names grammars graph deck = (graph_text names graph, Done, record { text_is = refl; status_is = refl })
+some_done command.Made reads L bytes names grammars graph deck = absurd reads
+
+some_read : SomeAnswer → (job : Job) → Reads job.command → (bytes : List ℕ) → (text : List ℕ) × (status : Status) × IsDefined job bytes text status
+some_read some job reads bytes =
+    ⊎_elim
+    (λ d. let done = some_done job.command reads job.limit bytes d.0 d.1 d.2 d.3 in
+    (done.0, done.1, of_deck (record { names = d.0; grammars = d.1; graph = d.2; deck = d.3; done = done.2 })))
+    (λ r. (refusal_line r.0, Refused, of_refused reads (record { refusal = r.0; refused = r.1; text_is = refl; status_is = refl })))
+    (some bytes)
+
+-- what a made deck leaves
+
+made_accepted : (k : ℕ) (rule : Rule) → rule ∈ (made_grammar k).rules → IsAccepted rule
+made_accepted k =
+    from_map level_rule (range_with_len 0 k) IsAccepted
+    (λ i among. rule_accepted i (of_level i first_var (of_level i second_var no_pattern)) (of_level (i + 1) first_var no_pattern) refl refl)
+
+made_valid : (k : ℕ) → IsValid (made_graph k)
+made_valid k =
+    let some : 0 < length (map (word_tree k) (words k)) = omega (arith, length-map-range_with_len (word_tree k) 1 (2 ^ k), pow_pos 2 k) in
+    line_valid 1 2 (map (word_tree k) (words k)) some refl (omega arith) (omega arith)
+
+made_of : (L size : ℕ) (lefts : List Left) (ending : Ending) → Cascade L (made_graph size) ((made_grammar size).rules ∷ []) lefts ending
+    → (text : List ℕ) × (status : Status) × IsMadeOf L size text status
+made_of L size lefts ending (limit needs) =
+    (summary L size over, Limit, record { left = over; ending = by_limit; cascade = limit needs; text_is = refl; status_is = refl })
+made_of L size lefts ending (empty {C = C} closes few cleans none) =
+    let left : Left = no_arc (length C.done) in
+    (summary L size left, Done, record { left = left; ending = all_done; cascade = empty closes few cleans none; text_is = refl; status_is = refl })
+made_of L size lefts ending (goes_on {H = H} {C = C} closes few cleans some no_more) =
+    let left : Left = a_graph (length C.done) H in
+    (summary L size left, Done, record { left = left; ending = all_done; cascade = goes_on closes few cleans some no_more; text_is = refl; status_is = refl })
+
+some_made : (L size : ℕ) → (text : List ℕ) × (status : Status) × IsMadeOf L size text status
+some_made L size =
+    let accepted : (R : List Rule) → R ∈ ((made_grammar size).rules ∷ []) → (rule : Rule) → rule ∈ R → IsAccepted rule =
+    λ R among. ⊎_elim (λ same. subst (λ (Q : List Rule). (rule : Rule) → rule ∈ Q → IsAccepted rule) (sym same) (made_accepted size)) (λ none. absurd none) among in
+    let o = has_outcome L ((made_grammar size).rules ∷ []) accepted (made_graph size) (made_valid size) in
+    made_of L size o.0 o.1 o.2
+
+-- what is defined
+
+some_for : SomeAnswer → (job : Job) (bytes : List ℕ) (which : Command) → job.command ≡ which → (text : List ℕ) × (status : Status) × IsDefined job bytes text status
+some_for some job bytes command.Run same = some_read some job (subst Reads (sym same) tt) bytes
+some_for some job bytes command.Check same = some_read some job (subst Reads (sym same) tt) bytes
+some_for some job bytes command.Graph same = some_read some job (subst Reads (sym same) tt) bytes
+some_for some job bytes command.Made same = let made = some_made job.limit job.size in (made.0, made.1, of_made same made.2)
 
 pub some_definition : SomeAnswer → (job : Job) (bytes : List ℕ) → (text : List ℕ) × (status : Status) × IsDefined job bytes text status
-some_definition some job bytes =
-    ⊎_elim
-    (λ d. let done = some_done job.command job.limit bytes d.0 d.1 d.2 d.3 in
-    (done.0, done.1, inr (record { names = d.0; grammars = d.1; graph = d.2; deck = d.3; done = done.2 })))
-    (λ r. (refusal_line r.0, Refused, inl (record { refusal = r.0; refused = r.1; text_is = refl; status_is = refl })))
-    (some bytes)
+some_definition some job bytes = some_for some job bytes job.command refl

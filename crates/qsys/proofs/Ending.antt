@@ -2,16 +2,19 @@
 use Rattle.std.proofs.Common.{◌≡◌, ℕ, List, Option, Global, refl, sym, subst, inl, inr}
 use Rattle.std.specs.Prelude.{Result, Ok, Err, IfOk}
 use Rattle.std.specs.declared.vec.Vec.{Vec}
+use Rattle.qs_lex.specs.declared.refusal.Refusal.{Refusal}
 use Rattle.qs_graph.specs.Graphs.{QGraph}
 use Rattle.qs_graphtext.specs.Texts.{graph_text}
 use Rattle.qs_deck.specs.Decks.{Grammar, IsDeckOf}
 use Rattle.qs_deck.specs.Texts.{deck_text}
+use Rattle.qs_deck.specs.Refusals.{IsRefusalOf}
+use Rattle.qsys.specs.Texts.{refusal_line}
 use Rattle.qsys.specs.declared.job.Command.{Command}
 use Rattle.qsys.specs.declared.job.Command.TheVariants as command
 use Rattle.qsys.specs.declared.job.Job.{Job}
 use Rattle.qsys.specs.declared.status.Status.{Status}
-use Rattle.qsys.specs.declared.status.Status.TheVariants.{Done}
-use Rattle.qsys.specs.Defined.{IsDefined, IsDone, status_of}
+use Rattle.qsys.specs.declared.status.Status.TheVariants.{Done, Refused}
+use Rattle.qsys.specs.Defined.{IsDefined, of_refused, of_deck, IsDone, Reads, status_of}
 use Rattle.qsys.specs.Cascading.{Delivers, DeliversCascade, IsAnswered, IsWritten}
 
 -- the blocks of the cascade of a deck are what is defined for its text
@@ -23,7 +26,7 @@ cascade_defined job bytes names grammars graph old new answer run deck d =
       text = d.text;
       status = status_of d.ending;
       defined =
-          inr (record {
+          of_deck (record {
             names = names;
             grammars = grammars;
             graph = graph;
@@ -35,11 +38,15 @@ cascade_defined job bytes names grammars graph old new answer run deck d =
       delivered = d.delivered;
     })
 
+-- the line of a text that is refused
+pub refused_defined : (job : Job) (bytes : List ℕ) (refusal : Refusal) → Reads job.command → IsRefusalOf bytes refusal → IsDefined job bytes (refusal_line refusal) Refused
+refused_defined job bytes refusal reads is = of_refused reads (record { refusal = refusal; refused = is; text_is = refl; status_is = refl })
+
 -- a deck that is checked, and its graph
 pub check_defined : (job : Job) (bytes : List ℕ) (names : List (List ℕ)) (grammars : List Grammar) (graph : QGraph) → job.command ≡ command.Check → IsDeckOf bytes names grammars graph
     → IsDefined job bytes (deck_text names grammars graph) Done
 check_defined job bytes names grammars graph check deck =
-    inr (record {
+    of_deck (record {
       names = names;
       grammars = grammars;
       graph = graph;
@@ -52,7 +59,7 @@ check_defined job bytes names grammars graph check deck =
 pub graph_defined : (job : Job) (bytes : List ℕ) (names : List (List ℕ)) (grammars : List Grammar) (graph : QGraph) → job.command ≡ command.Graph → IsDeckOf bytes names grammars graph
     → IsDefined job bytes (graph_text names graph) Done
 graph_defined job bytes names grammars graph drawn deck =
-    inr (record {
+    of_deck (record {
       names = names;
       grammars = grammars;
       graph = graph;

@@ -17,3 +17,5 @@ pub mod MarksRead
 pub mod Cutting
 pub mod InTwoPieces
 pub mod FromTheFirst
+-- Made decks.
+pub mod MadeEnds

@@ -1,11 +1,12 @@
 -- For given bytes and a given job one text is defined at most, where a text has one refusal or one deck.
-use Rattle.std.proofs.Common.{◌≡◌, ℕ, List, [], Option, Some, None, refl, sym, ap, ◌∙◌, subst, inl, inr, arith}
+use Rattle.std.proofs.Common.{◌≡◌, ℕ, List, [], ◌∷◌, Option, Some, None, refl, sym, ap, ◌∙◌, subst, inl, inr, arith}
 use Rattle.std.specs.Io.KnownBytes.{append_known}
 use Rattle.std.proofs.lemmas.List.{append-nil}
 use Rattle.qs_io.specs.Devices.{AppendsPrefix, AppendsProperPrefix}
 use Rattle.qs_lex.specs.declared.refusal.Refusal.{Refusal}
 use Rattle.qs_graph.specs.Graphs.{QGraph}
-use Rattle.qs_clean.specs.Cascades.{Ending}
+use Rattle.qs_pattern.specs.Rules.{Rule}
+use Rattle.qs_clean.specs.Cascades.{Cascade, Left, over, Ending}
 use Rattle.qs_deck.specs.Decks.{Grammar, IsDeckOf}
 use Rattle.qs_deck.specs.Refusals.{IsRefusalOf}
 use Rattle.qsys.specs.declared.status.Status.{Status}
@@ -14,13 +15,22 @@ use Rattle.qsys.specs.declared.job.Command.TheVariants as command
 use Rattle.qsys.specs.declared.job.Job.{Job}
 use Rattle.qsys.specs.Texts.{refusal_line}
 use Rattle.qsys.specs.Outcomes.{IsOutcome}
-use Rattle.qsys.specs.Defined.{IsDefined, IsDone, status_of}
+use Rattle.qs_deck.specs.MadeDecks.{made_grammar, made_graph}
+use Rattle.qsys.specs.Defined.{IsDefined, of_refused, of_deck, of_made, IsDone, IsMadeOf, Reads, status_of, summary}
 use Rattle.qsys.specs.Answers.{KeepsToDefined}
 
 -- a cascade has one outcome
 abbrev pub OneOutcome : Type 0
 OneOutcome = (limit : ℕ) (names : List (List ℕ)) (graph : QGraph) (grammars : List Grammar) (t u : List ℕ) (e d : Ending)
     → IsOutcome limit names graph grammars t e → IsOutcome limit names graph grammars u d → (t ≡ u) × (e ≡ d)
+
+abbrev pub OneCascade : Type 0
+OneCascade = (L : ℕ) (G : QGraph) (Rs : List (List Rule)) (l m : List Left) (e d : Ending) → Cascade L G Rs l e → Cascade L G Rs m d → (l ≡ m) × (e ≡ d)
+
+-- what is left first
+abbrev first_left : List Left → Left
+first_left [] = over
+first_left (left ∷ lefts) = left
 
 -- a text has one deck or one refusal
 pub record OneDeck : Type 0 where
@@ -43,23 +53,36 @@ module _ (one_outcome : OneOutcome) where
       (both.0, a.status_is ∙ ap status_of both.1 ∙ sym b.status_is)
   same_done command.Check L names grammars graph t u s r a b = (a.text_is ∙ sym b.text_is, a.status_is ∙ sym b.status_is)
   same_done command.Graph L names grammars graph t u s r a b = (a.text_is ∙ sym b.text_is, a.status_is ∙ sym b.status_is)
+  same_done command.Made L names grammars graph t u s r a b = absurd a
 
-  pub same_definition : OneDeck → (job : Job) (bytes t u : List ℕ) (s r : Status) → IsDefined job bytes t s → IsDefined job bytes u r → (t ≡ u) × (s ≡ r)
-  same_definition one job bytes t u s r (inl a) (inl b) =
-      (a.text_is ∙ ap refusal_line (one.refusal bytes a.refusal b.refusal a.refused b.refused) ∙ sym b.text_is, a.status_is ∙ sym b.status_is)
-  same_definition one job bytes t u s r (inl a) (inr b) = absurd (one.not_both bytes b.names b.grammars b.graph a.refusal b.deck a.refused)
-  same_definition one job bytes t u s r (inr a) (inl b) = absurd (one.not_both bytes a.names a.grammars a.graph b.refusal a.deck b.refused)
-  same_definition one job bytes t u s r (inr a) (inr b) =
-      let (names, grammars, graph) = one.deck bytes a.names b.names a.grammars b.grammars a.graph b.graph a.deck b.deck in
-      let P : List (List ℕ) × List Grammar × QGraph → Type 0 = λ x. IsDone job.command job.limit x.0 x.1 x.2 t s in
-      let same : ◌≡◌ {A = List (List ℕ) × List Grammar × QGraph} (a.names, a.grammars, a.graph) (b.names, b.grammars, b.graph) =
-      λ i. (names i, grammars i, graph i) in
-      same_done job.command job.limit b.names b.grammars b.graph t u s r (subst P same a.done) b.done
+  module _ (one_cascade : OneCascade) where
+    -- of a made deck one thing is told
+    same_made : (L size : ℕ) (t u : List ℕ) (s r : Status) → IsMadeOf L size t s → IsMadeOf L size u r → (t ≡ u) × (s ≡ r)
+    same_made L size t u s r a b =
+        let both = one_cascade L (made_graph size) ((made_grammar size).rules ∷ []) (a.left ∷ []) (b.left ∷ []) a.ending b.ending a.cascade b.cascade in
+        (a.text_is ∙ ap (λ lefts. summary L size (first_left lefts)) both.0 ∙ sym b.text_is, a.status_is ∙ ap status_of both.1 ∙ sym b.status_is)
 
-  -- so what was written is a prefix of whatever text is defined
-  pub prefix_of_each : OneDeck → (job : Job) (bytes : List ℕ) (old new : Option (List ℕ)) → KeepsToDefined job bytes old new
-      → (text : List ℕ) (status : Status) → IsDefined job bytes text status → AppendsPrefix old new text
-  prefix_of_each one job bytes old new (inl same) text status defined = (0, omega arith, same ∙ nothing_more old)
-  prefix_of_each one job bytes old new (inr w) text status defined =
-      let same = (same_definition one job bytes w.text text w.status status w.defined defined).0 in
-      let (n, within, begun) = subst (AppendsProperPrefix old new) same w.written in (n, omega (arith, within), begun)
+    pub same_definition : OneDeck → (job : Job) (bytes t u : List ℕ) (s r : Status) → IsDefined job bytes t s → IsDefined job bytes u r → (t ≡ u) × (s ≡ r)
+    same_definition one job bytes t u s r (of_refused p a) (of_refused q b) =
+        (a.text_is ∙ ap refusal_line (one.refusal bytes a.refusal b.refusal a.refused b.refused) ∙ sym b.text_is, a.status_is ∙ sym b.status_is)
+    same_definition one job bytes t u s r (of_refused p a) (of_deck b) = absurd (one.not_both bytes b.names b.grammars b.graph a.refusal b.deck a.refused)
+    same_definition one job bytes t u s r (of_deck a) (of_refused q b) = absurd (one.not_both bytes a.names a.grammars a.graph b.refusal a.deck b.refused)
+    same_definition one job bytes t u s r (of_deck a) (of_deck b) =
+        let (names, grammars, graph) = one.deck bytes a.names b.names a.grammars b.grammars a.graph b.graph a.deck b.deck in
+        let P : List (List ℕ) × List Grammar × QGraph → Type 0 = λ x. IsDone job.command job.limit x.0 x.1 x.2 t s in
+        let same : ◌≡◌ {A = List (List ℕ) × List Grammar × QGraph} (a.names, a.grammars, a.graph) (b.names, b.grammars, b.graph) =
+        λ i. (names i, grammars i, graph i) in
+        same_done job.command job.limit b.names b.grammars b.graph t u s r (subst P same a.done) b.done
+    same_definition one job bytes t u s r (of_made m a) (of_made n b) = same_made job.limit job.size t u s r a b
+    same_definition one job bytes t u s r (of_made m a) (of_refused q b) = absurd (subst Reads m q)
+    same_definition one job bytes t u s r (of_refused p a) (of_made n b) = absurd (subst Reads n p)
+    same_definition one job bytes t u s r (of_made m a) (of_deck b) = absurd (subst (λ which. IsDone which job.limit b.names b.grammars b.graph u r) m b.done)
+    same_definition one job bytes t u s r (of_deck a) (of_made n b) = absurd (subst (λ which. IsDone which job.limit a.names a.grammars a.graph t s) n a.done)
+
+    -- so what was written is a prefix of whatever text is defined
+    pub prefix_of_each : OneDeck → (job : Job) (bytes : List ℕ) (old new : Option (List ℕ)) → KeepsToDefined job bytes old new
+        → (text : List ℕ) (status : Status) → IsDefined job bytes text status → AppendsPrefix old new text
+    prefix_of_each one job bytes old new (inl same) text status defined = (0, omega arith, same ∙ nothing_more old)
+    prefix_of_each one job bytes old new (inr w) text status defined =
+        let same = (same_definition one job bytes w.text text w.status status w.defined defined).0 in
+        let (n, within, begun) = subst (AppendsProperPrefix old new) same w.written in (n, omega (arith, within), begun)

@@ -1,18 +1,19 @@
--- What a job is defined to write for the bytes that it read, and with which status it is to end. This project's own.
-use Rattle.std.specs.Prelude.{◌≡◌, ◌⊎◌, ℕ, List}
+-- What a job is defined to write, for the bytes that it read where it reads, and with which status it is to end. This project's own.
+use Rattle.std.specs.Prelude.{◌≡◌, ℕ, ◌^◌, List, [], ◌∷◌, length}
 use Rattle.qs_lex.specs.declared.refusal.Refusal.{Refusal}
 use Rattle.qs_graph.specs.Graphs.{QGraph}
 use Rattle.qs_graphtext.specs.Texts.{graph_text}
-use Rattle.qs_clean.specs.Cascades.{Ending, all_done, by_limit}
+use Rattle.qs_clean.specs.Cascades.{Cascade, Left, a_graph, no_arc, over, Ending, all_done, by_limit}
 use Rattle.qs_deck.specs.Decks.{Grammar, IsDeckOf}
 use Rattle.qs_deck.specs.Refusals.{IsRefusalOf}
 use Rattle.qs_deck.specs.Texts.{deck_text}
+use Rattle.qs_deck.specs.MadeDecks.{made_grammar, made_graph}
 use Rattle.qsys.specs.declared.job.Command.{Command}
 use Rattle.qsys.specs.declared.job.Command.TheVariants as command
 use Rattle.qsys.specs.declared.job.Job.{Job}
 use Rattle.qsys.specs.declared.status.Status.{Status}
 use Rattle.qsys.specs.declared.status.Status.TheVariants.{Done, Refused, Limit}
-use Rattle.qsys.specs.Texts.{refusal_line}
+use Rattle.qsys.specs.Texts.{refusal_line, summary_line, limit_line}
 use Rattle.qsys.specs.Outcomes.{IsOutcome}
 
 -- A cascade that met the limit gives the status Limit, any other one Done.
@@ -20,7 +21,14 @@ abbrev pub status_of : Ending → Status
 status_of all_done = Done
 status_of by_limit = Limit
 
--- For a text that isn't accepted the line is defined that tells its first fault, whatever the job is.
+-- All commands read, but the command `made`.
+abbrev pub Reads : Command → Type 0
+Reads command.Run = Unit {0}
+Reads command.Check = Unit {0}
+Reads command.Graph = Unit {0}
+Reads command.Made = ⊥
+
+-- For a text that isn't accepted the line is defined that tells its first fault, whatever is to be done with it.
 pub record IsRefusal (bytes text : List ℕ) (status : Status) : Type 0 where
   pub refusal : Refusal
   pub refused : IsRefusalOf bytes refusal
@@ -43,11 +51,12 @@ pub record IsGraphOf (names : List (List ℕ)) (graph : QGraph) (text : List ℕ
   pub text_is : text ≡ graph_text names graph
   pub status_is : status ≡ Done
 
--- What is done with a deck, by the command.
+-- What is done with a deck that was read, by the command.
 abbrev pub IsDone : Command → ℕ → List (List ℕ) → List Grammar → QGraph → List ℕ → Status → Type 0
 IsDone command.Run limit names grammars graph text status = IsRunOf limit names grammars graph text status
 IsDone command.Check limit names grammars graph text status = IsCheckOf names grammars graph text status
 IsDone command.Graph limit names grammars graph text status = IsGraphOf names graph text status
+IsDone command.Made limit names grammars graph text status = ⊥
 
 -- With an accepted text the command is done.
 pub record IsAnswer (job : Job) (bytes text : List ℕ) (status : Status) : Type 0 where
@@ -57,6 +66,23 @@ pub record IsAnswer (job : Job) (bytes text : List ℕ) (status : Status) : Type
   pub deck : IsDeckOf bytes names grammars graph
   pub done : IsDone job.command job.limit names grammars graph text status
 
--- For this job and these bytes this text is defined, with this status.
-abbrev pub IsDefined : Job → List ℕ → List ℕ → Status → Type 0
-IsDefined job bytes text status = IsRefusal bytes text status ⊎ IsAnswer job bytes text status
+-- What is told of a made deck, by what its grammar leaves of its graph: the summary, or that the limit was met.
+abbrev pub summary : ℕ → ℕ → Left → List ℕ
+summary limit size (a_graph firings graph) = summary_line size (2 ^ size) firings (length graph.arcs)
+summary limit size (no_arc firings) = summary_line size (2 ^ size) firings 0
+summary limit size over = limit_line limit
+
+-- The command `made` runs the grammar of the made deck of a size on its graph, and tells what is left.
+pub record IsMadeOf (limit size : ℕ) (text : List ℕ) (status : Status) : Type 0 where
+  pub left : Left
+  pub ending : Ending
+  pub cascade : Cascade limit (made_graph size) ((made_grammar size).rules ∷ []) (left ∷ []) ending
+  pub text_is : text ≡ summary limit size left
+  pub status_is : status ≡ status_of ending
+
+-- For this job and these bytes this text is defined, with this status. Where the job reads, the bytes are a text that is
+-- refused, or mean a deck, with which the command is done; `made` doesn't depend on them.
+pub data IsDefined (job : Job) (bytes text : List ℕ) (status : Status) : Type 0 where
+  of_refused : Reads job.command → IsRefusal bytes text status → IsDefined job bytes text status
+  of_deck : IsAnswer job bytes text status → IsDefined job bytes text status
+  of_made : job.command ≡ command.Made → IsMadeOf job.limit job.size text status → IsDefined job bytes text status

@@ -25,9 +25,19 @@ graph_block names name firings graph = counted_line names name firings ++ graph_
 abbrev pub empty_block : List (List ℕ) → Label → ℕ → List ℕ
 empty_block names name firings = counted_line names name firings ++ line (codes "-VIDE-.")
 
--- The block of a grammar that needs more firings than the limit: its second line is `-LIMITE- 5.`
+-- The line that tells that the limit was met: `-LIMITE- 5.`
+abbrev pub limit_line : ℕ → List ℕ
+limit_line limit = line (codes "-LIMITE- " ++ (decimal limit ++ codes "."))
+
+-- The block of a grammar that needs more firings than the limit has this line as its second.
 abbrev pub limit_block : List (List ℕ) → Label → ℕ → List ℕ
-limit_block names name limit = title_line names name ++ line (codes "-LIMITE- " ++ (decimal limit ++ codes "."))
+limit_block names name limit = title_line names name ++ limit_line limit
+
+-- The summary of a made deck has its size, the number of its words, how many firings were done, and how many arcs are left:
+-- `-FAIT- 3 8 13 1.`
+abbrev pub summary_line : ℕ → ℕ → ℕ → ℕ → List ℕ
+summary_line size words firings arcs =
+    line (codes "-FAIT- " ++ (decimal size ++ (codes " " ++ (decimal words ++ (codes " " ++ (decimal firings ++ (codes " " ++ (decimal arcs ++ codes "."))))))))
 
 -- The name by which a cause is told.
 abbrev pub cause_name : Cause → List ℕ

@@ -11,7 +11,7 @@ use Rattle.clap.specs.Simple.{on_top}
 use Rattle.clap.specs.declared.builder.ArgAction.TheVariants.{Set}
 use Rattle.clap.specs.declared.builder.value_parser.ValueParser.TheVariants as parser
 use Rattle.qsys.specs.declared.job.Command.{Command}
-use Rattle.qsys.specs.declared.job.Command.TheVariants.{Run, Check, Graph}
+use Rattle.qsys.specs.declared.job.Command.TheVariants.{Run, Check, Graph, Made}
 use Rattle.qsys.specs.declared.job.Job.{Job}
 
 -- A limit is a number from 1 to 100,000.
@@ -57,6 +57,7 @@ command_of word =
     if bytes_eq word (codes "run") then Some Run
     else if bytes_eq word (codes "check") then Some Check
     else if bytes_eq word (codes "graph") then Some Graph
+    else if bytes_eq word (codes "made") then Some Made
     else None
 
 -- The number that the option of this name has among the arguments, in decimal.

@@ -2,7 +2,7 @@
 
 ghost use Rattle.std.specs.Prelude.{◌≡◌, ◌<◌, ◌++◌, IfOk, OnOk, length, decimal};
 ghost use Rattle.qs_cascade.specs.Stages.{IsEndNamed};
-ghost use Rattle.qsys.specs.Texts.{title_line, counted_line};
+ghost use Rattle.qsys.specs.Texts.{title_line, counted_line, limit_line};
 ghost use Rattle.qsys.specs.Outcomes.{block};
 ghost use Rattle.qsys.specs.Ends.{left_of};
 
@@ -17,6 +17,16 @@ pub fn append_number(alloc: Global, number: u32, out: &mut Vec<u8>) -> Result<()
 {
     let digits = number.to_string(alloc)?;
     out.extend_from_slice(digits.as_bytes())?;
+    Ok(())
+}
+
+/// Appends the line that tells that the limit was met.
+pub fn append_limit(alloc: Global, limit: u32, out: &mut Vec<u8>) -> Result<(), AllocError>
+    ensures { OnOk result (out.new.items ≡ out.old.items ++ limit_line limit) }
+{
+    out.extend_from_slice(b"-LIMITE- ")?;
+    append_number(alloc, limit, out)?;
+    out.extend_from_slice(b".\n")?;
     Ok(())
 }
 
@@ -76,9 +86,7 @@ pub fn block(
         }
         StageEnd::Over => {
             let mut text = title_line(alloc, names, name)?;
-            text.extend_from_slice(b"-LIMITE- ")?;
-            append_number(alloc, limit, &mut text)?;
-            text.extend_from_slice(b".\n")?;
+            append_limit(alloc, limit, &mut text)?;
             Ok(text)
         }
     }

@@ -28,5 +28,6 @@ pub fn one_definition()
         → IsDefined job bytes t s → IsDefined job bytes u r → (t ≡ u) × (s ≡ r) }
 {
     one_answer();
+    one_cascade();
     one_outcome();
 }

@@ -17,6 +17,7 @@ pub mod over;
 mod refusals;
 pub mod run;
 pub mod status;
+mod summaries;
 pub mod top;
 pub mod words;
 pub mod words_laws;

@@ -5,8 +5,10 @@ ghost use Rattle.std.specs.String.{string_bytes};
 ghost use Rattle.qs_io.specs.Devices.{AppendsProperPrefix, Gives};
 ghost use Rattle.qs_io.specs.Limits.{most_text_bytes};
 ghost use Rattle.qsys.specs.declared.job.Job.{Job};
+ghost use Rattle.qsys.specs.declared.job.Command.TheVariants.{Made};
 ghost use Rattle.qsys.specs.Texts.{usage_line};
 ghost use Rattle.qsys.specs.Words.{IsJobOf, AreRefused};
+ghost use Rattle.qsys.specs.Defined.{Reads};
 ghost use Rattle.qsys.specs.Answers.{EndsAsDefined, IsOfWholeText, WritesDefined};
 
 use crate::status::Status;
@@ -39,7 +41,13 @@ pub fn run_over<R: Read, W: Write>(
 ) -> EndedRun<R, W>
     ensures headline { (job : Job) → IsJobOf (map string_bytes words.now) job
         → EndsAsDefined job result.source.given (Some []) (Some result.sink.taken) result.status }
-    ensures ended { IsOfWholeText result.status → IsTrue result.source.ended }
+    ensures ended { (job : Job) → IsJobOf (map string_bytes words.now) job → Reads job.command
+        → IsOfWholeText result.status → IsTrue result.source.ended }
+    // The command that makes a deck reads nothing.
+    ensures nothing_read_by_made { (job : Job) → IsJobOf (map string_bytes words.now) job → job.command ≡ Made
+        → result.source.given ≡ [] }
+    ensures made_answers { (job : Job) → IsJobOf (map string_bytes words.now) job → job.command ≡ Made
+        → (result.status ≢ Status.Refused) × (result.status ≢ Status.ReadFault) × (result.status ≢ Status.TooLong) }
     // With no fault and not too many bytes, only memory can be wanting.
     ensures complete { (job : Job) → IsJobOf (map string_bytes words.now) job
         → length result.source.given ≤ most_text_bytes → result.source.faults ≡ 0 → result.sink.sink.faults ≡ 0

@@ -8,6 +8,7 @@ ghost use Rattle.qs_io.specs.Limits.{most_text_bytes};
 ghost use Rattle.qs_deck.specs.Decks.{grammar_of};
 ghost use Rattle.qs_deck.specs.Texts.{deck_text};
 ghost use Rattle.qsys.specs.Words.{IsLimit};
+ghost use Rattle.qsys.specs.Defined.{Reads};
 ghost use Rattle.qsys.specs.Answers.{EndsAsDefined, EndsAsGiven, IsOfWholeText, WritesDefined};
 ghost use Rattle.qsys.specs.Cascading.{IsAnswered, IsWritten};
 
@@ -15,6 +16,7 @@ use crate::cascade::cascade;
 use crate::job::{Command, Job};
 use crate::refusals::refusal_line;
 use crate::status::Status;
+use crate::summaries::{made_end, status_of, summary};
 use qs_deck::{Deck, DeckEnd, read_deck, write_deck};
 use qs_graphtext::write_graph;
 use qs_io::{ReadEnd, Sink, Source, read_all, write_all};
@@ -60,6 +62,7 @@ fn write_text<K: Sink>(sink: &mut K, text: Result<Vec<u8>, AllocError>, status: 
 /// with a proper prefix of the text that is defined.
 fn answer<K: Sink>(alloc: Global, job: &Job, bytes: &[u8], sink: &mut K) -> Status
     requires limit { IsLimit job.now.limit }
+    requires reads { Reads job.now.command }
     requires bytes { length bytes.now ≤ most_text_bytes }
     ensures answered { IsAnswered job.now bytes.now (K.written sink.old) (K.written sink.new) result }
     ensures kinds { IsOfWholeText result ⊎ (result ≡ Status.WriteFault) ⊎ (result ≡ Status.Memory) }
@@ -85,35 +88,42 @@ fn answer<K: Sink>(alloc: Global, job: &Job, bytes: &[u8], sink: &mut K) -> Stat
         }
         Command::Check => write_text(sink, deck_text(alloc, &deck), Status::Done),
         Command::Graph => write_text(sink, graph_text(alloc, &deck), Status::Done),
+        Command::Made => unreachable!(),
     }
 }
 
-/// Does the job: reads the source to its end and the deck that it means, and writes to the sink what is defined. The limit is
-/// from 1 to 100,000. One worker does it, whatever the job says of workers. It always returns, and never waits.
-///
-/// - `run` runs the grammars one after another and writes what each leaves, when it has ended; `check` writes the deck and
-///   `graph` its graph. For a text that isn't accepted its first fault is told.
-/// - `Done`, `Refused` and `Limit` come where the whole text that is defined was written, and the source was read to its
-///   end.
-/// - `ReadFault` comes only where the source's count of faults rose in this call, and `TooLong` exactly where
-///   4,194,305 bytes were taken; nothing is written then.
-/// - `WriteFault` comes only where the sink's count of faults rose in this call; a proper prefix of the text that is
-///   defined is written then. `Memory` comes where memory was wanting; nothing is written then, or a proper prefix.
-/// - With every answer but `ReadFault` the source's count of faults stays as it was, and with every answer but
-///   `WriteFault` the sink's: so where a whole text was written, no fault was counted.
-pub fn run_still<S: Source, K: Sink>(
+/// Runs the made deck of the job's size, and writes a line that tells what is left. `Memory` comes where memory was wanting;
+/// nothing is written then.
+fn tell_made<K: Sink>(alloc: Global, job: &Job, sink: &mut K) -> Status
+    requires limit { IsLimit job.now.limit }
+    requires size { job.now.size ≤ 13 }
+    requires command { job.now.command ≡ Command.Made }
+    ensures headline { (bytes : List ℕ) → EndsAsDefined job.now bytes (K.written sink.old) (K.written sink.new) result }
+    ensures kinds { (result ≡ Status.Done) ⊎ (result ≡ Status.Limit) ⊎ (result ≡ Status.WriteFault) ⊎ (result ≡ Status.Memory) }
+    ensures fault { result ≡ Status.WriteFault → HasRisen (K.faults sink.old) (K.faults sink.new) }
+    ensures no_fault { result ≢ Status.WriteFault → K.faults sink.new ≡ K.faults sink.old }
+    ensures count { K.faults sink.old ≤ K.faults sink.new }
+{
+    let Ok(end) = made_end(alloc, job.size, job.limit) else {
+        return Status::Memory;
+    };
+    let status = status_of(&end);
+    write_text(sink, summary(alloc, job.size, job.limit, &end), status)
+}
+
+/// Reads the source to its end and the deck that it means, and writes to the sink what is defined; `run_still` tells the
+/// answers.
+fn read_and_answer<S: Source, K: Sink>(
     alloc: Global,
     job: &Job,
     source: &mut S,
     sink: &mut K,
 ) -> Status
     requires limit { IsLimit job.now.limit }
+    requires reads { Reads job.now.command }
 
-    // Where the source tells its bytes, exactly what is defined for them is written; only too many bytes, a fault that is
-    // counted or want of memory stops it, at a prefix.
     ensures headline { (bytes : List ℕ) → S.left source.old ≡ Some bytes
         → EndsAsDefined job.now bytes (K.written sink.old) (K.written sink.new) result }
-    // With no fault and not too many bytes, only memory can be wanting.
     ensures complete { (bytes : List ℕ) → S.left source.old ≡ Some bytes → length bytes ≤ most_text_bytes
         → ¬ HasRisen (S.faults source.old) (S.faults source.new) → ¬ HasRisen (K.faults sink.old) (K.faults sink.new)
         → WritesDefined job.now bytes (K.written sink.old) (K.written sink.new) result ⊎ (result ≡ Status.Memory) }
@@ -122,8 +132,8 @@ pub fn run_still<S: Source, K: Sink>(
     ensures as_given { EndsAsGiven job.now (S.given source.old) (S.given source.new)
         (K.written sink.old) (K.written sink.new) result }
     ensures ended { IsOfWholeText result → S.has_ended source.new }
-
     ensures read_to_end { IsOfWholeText result → IsAtEnd (S.left source.new) }
+
     ensures read_fault { result ≡ Status.ReadFault → HasRisen (S.faults source.old) (S.faults source.new) }
     ensures too_long { (n : ℕ) × TakesBytes (S.left source.old) (S.left source.new) n × (n ≤ most_text_bytes + 1)
         × (result ≡ Status.TooLong ↔ (n ≡ most_text_bytes + 1)) }
@@ -144,4 +154,63 @@ pub fn run_still<S: Source, K: Sink>(
         Err(ReadEnd::Memory) => return Status::Memory,
     };
     answer(alloc, job, &bytes, sink)
+}
+
+/// Does the job: reads the source to its end and the deck that it means, and writes to the sink what is defined; or makes a
+/// deck, and reads nothing. The limit is from 1 to 100,000 and the size from 0 to 13. One worker does it, whatever the job
+/// says of workers. It always returns, and never waits.
+///
+/// - `run` runs the grammars one after another and writes what each leaves, when it has ended; `check` writes the deck and
+///   `graph` its graph. For a text that isn't accepted its first fault is told. `made` runs the made deck of the job's size,
+///   and tells in one line what is left; `Refused`, `ReadFault` and `TooLong` don't come for it.
+/// - `Done`, `Refused` and `Limit` come where the whole text that is defined was written, and, but for `made`, the source was
+///   read to its end.
+/// - `ReadFault` comes only where the source's count of faults rose in this call, and `TooLong` exactly where
+///   4,194,305 bytes were taken; nothing is written then.
+/// - `WriteFault` comes only where the sink's count of faults rose in this call; a proper prefix of the text that is
+///   defined is written then. `Memory` comes where memory was wanting; nothing is written then, or a proper prefix.
+/// - With every answer but `ReadFault` the source's count of faults stays as it was, and with every answer but
+///   `WriteFault` the sink's: so where a whole text was written, no fault was counted.
+pub fn run_still<S: Source, K: Sink>(
+    alloc: Global,
+    job: &Job,
+    source: &mut S,
+    sink: &mut K,
+) -> Status
+    requires limit { IsLimit job.now.limit }
+    requires size { job.now.size ≤ 13 }
+
+    // Where the source tells its bytes, exactly what is defined for them is written; only too many bytes, a fault that is
+    // counted or want of memory stops it, at a prefix.
+    ensures headline { (bytes : List ℕ) → S.left source.old ≡ Some bytes
+        → EndsAsDefined job.now bytes (K.written sink.old) (K.written sink.new) result }
+    // With no fault and not too many bytes, only memory can be wanting.
+    ensures complete { (bytes : List ℕ) → S.left source.old ≡ Some bytes → length bytes ≤ most_text_bytes
+        → ¬ HasRisen (S.faults source.old) (S.faults source.new) → ¬ HasRisen (K.faults sink.old) (K.faults sink.new)
+        → WritesDefined job.now bytes (K.written sink.old) (K.written sink.new) result ⊎ (result ≡ Status.Memory) }
+
+    // The same of the bytes that the reads of this call gave, which every source tells.
+    ensures as_given { EndsAsGiven job.now (S.given source.old) (S.given source.new) (K.written sink.old) (K.written sink.new) result }
+    // A command that reads, reads to the end before it writes; the one that makes a deck reads nothing.
+    ensures ended { Reads job.now.command → IsOfWholeText result → S.has_ended source.new }
+    ensures read_to_end { Reads job.now.command → IsOfWholeText result → IsAtEnd (S.left source.new) }
+    ensures nothing_read { job.now.command ≡ Command.Made → source.new ≡ source.old }
+    ensures made_answers { job.now.command ≡ Command.Made → (result ≢ Status.Refused) × (result ≢ Status.ReadFault) × (result ≢ Status.TooLong) }
+
+    ensures read_fault { result ≡ Status.ReadFault → HasRisen (S.faults source.old) (S.faults source.new) }
+    ensures too_long { (n : ℕ) × TakesBytes (S.left source.old) (S.left source.new) n × (n ≤ most_text_bytes + 1)
+        × (result ≡ Status.TooLong ↔ (n ≡ most_text_bytes + 1)) }
+    ensures nothing_written { (result ≡ Status.ReadFault) ⊎ (result ≡ Status.TooLong) → K.written sink.new ≡ K.written sink.old }
+    ensures write_fault { result ≡ Status.WriteFault → HasRisen (K.faults sink.old) (K.faults sink.new) }
+    ensures no_read_fault { result ≢ Status.ReadFault → S.faults source.new ≡ S.faults source.old }
+    ensures no_write_fault { result ≢ Status.WriteFault → K.faults sink.new ≡ K.faults sink.old }
+    ensures not_usage { result ≢ Status.Usage }
+
+    ensures source_count { S.faults source.old ≤ S.faults source.new }
+    ensures sink_count { K.faults sink.old ≤ K.faults sink.new }
+{
+    match job.command {
+        Command::Run | Command::Check | Command::Graph => read_and_answer(alloc, job, source, sink),
+        Command::Made => tell_made(alloc, job, sink),
+    }
 }

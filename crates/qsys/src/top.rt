@@ -6,8 +6,10 @@ ghost use Rattle.std.specs.String.{string_bytes};
 ghost use Rattle.qs_io.specs.Devices.{AppendsProperPrefix, Gives, HasRisen, TakesBytes};
 ghost use Rattle.qs_io.specs.Limits.{most_text_bytes};
 ghost use Rattle.qsys.specs.declared.job.Job.{Job};
+ghost use Rattle.qsys.specs.declared.job.Command.TheVariants.{Made};
 ghost use Rattle.qsys.specs.Texts.{usage_line};
 ghost use Rattle.qsys.specs.Words.{IsJobOf, AreRefused};
+ghost use Rattle.qsys.specs.Defined.{Reads};
 ghost use Rattle.qsys.specs.Answers.{EndsAsDefined, EndsAsGiven, IsOfWholeText, WritesDefined};
 
 use crate::run::run_still;
@@ -60,7 +62,16 @@ pub fn qsys<S: Source, K: Sink>(
     // The same of the bytes that the reads of this call gave, which every source tells.
     ensures as_given { (job : Job) → IsJobOf (map string_bytes words.now) job
         → EndsAsGiven job (S.given source.old) (S.given source.new) (K.written sink.old) (K.written sink.new) result }
-    ensures ended { IsOfWholeText result → S.has_ended source.new }
+    // A command that reads, reads to the end before it writes.
+    ensures ended { (job : Job) → IsJobOf (map string_bytes words.now) job → Reads job.command
+        → IsOfWholeText result → S.has_ended source.new }
+    ensures read_to_end { (job : Job) → IsJobOf (map string_bytes words.now) job → Reads job.command
+        → IsOfWholeText result → IsAtEnd (S.left source.new) }
+    // The one that makes a deck reads nothing.
+    ensures nothing_read_by_made { (job : Job) → IsJobOf (map string_bytes words.now) job → job.command ≡ Made
+        → source.new ≡ source.old }
+    ensures made_answers { (job : Job) → IsJobOf (map string_bytes words.now) job → job.command ≡ Made
+        → (result ≢ Status.Refused) × (result ≢ Status.ReadFault) × (result ≢ Status.TooLong) }
 
     // Words that give no job are answered with the usage line, where there is memory to read them, and nothing is read for
     // them.
@@ -70,7 +81,6 @@ pub fn qsys<S: Source, K: Sink>(
         ⊎ ((result ≡ Status.Memory) × (K.written sink.new ≡ K.written sink.old)) }
     ensures nothing_read { AreRefused (map string_bytes words.now) → source.new ≡ source.old }
 
-    ensures read_to_end { IsOfWholeText result → IsAtEnd (S.left source.new) }
     ensures read_fault { result ≡ Status.ReadFault → HasRisen (S.faults source.old) (S.faults source.new) }
     ensures too_long { (n : ℕ) × TakesBytes (S.left source.old) (S.left source.new) n × (n ≤ most_text_bytes + 1)
         × (result ≡ Status.TooLong ↔ (n ≡ most_text_bytes + 1)) }

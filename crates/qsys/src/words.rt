@@ -81,6 +81,7 @@ fn command_of(word: &str) -> Option<Command>
         "run" => Some(Command::Run),
         "check" => Some(Command::Check),
         "graph" => Some(Command::Graph),
+        "made" => Some(Command::Made),
         _ => None,
     }
 }

@@ -6,4 +6,4 @@ pub returns-clause-some : goal.returns-clause-some
 returns-clause-some c = some_definition c.one_answer.ensures.some
 
 pub returns-clause-one : goal.returns-clause-one
-returns-clause-one c = same_definition c.one_outcome.ensures (record { deck = c.one_answer.ensures.deck; refusal = c.one_answer.ensures.refusal; not_both = c.one_answer.ensures.not_both })
+returns-clause-one c = same_definition c.one_outcome.ensures c.one_cascade.ensures (record { deck = c.one_answer.ensures.deck; refusal = c.one_answer.ensures.refusal; not_both = c.one_answer.ensures.not_both })

@@ -32,3 +32,7 @@ returns-clause-read_fault g c = λ bad. risen _ _ (ap (λ (s : OverReader _). s.
 pub returns-clause-write_fault : goal.returns-clause-write_fault
 returns-clause-write_fault g c = λ bad.
     risen _ _ (ap (λ (s : Traced _). s.sink.faults) c.new-sink.ensures ∙ ap (λ (s : OverWriter _). s.faults) c.new.ensures) (c.qsys-status.ensures.write_fault bad)
+
+pub returns-clause-nothing_read_by_made : goal.returns-clause-nothing_read_by_made
+returns-clause-nothing_read_by_made g c = λ job is made.
+    ap (λ (s : OverReader _). s.given) (c.qsys-status.ensures.nothing_read_by_made job is made ∙ c.new-source.ensures)
