@@ -60,7 +60,7 @@ made_accepted k =
 
 made_valid : (k : ℕ) → IsValid (made_graph k)
 made_valid k =
-    let some : 0 < length (map (word_tree k) (words k)) = omega (arith, length-map-range_with_len (word_tree k) 1 (2 ^ k), pow_pos 2 k) in
+    let some : 0 < length (map (word_tree k) (words k)) = omega (arith, length-map-range_with_len (word_tree k) 1 (2 ^ k), pow_pos k) in
     line_valid 1 2 (map (word_tree k) (words k)) some refl (omega arith) (omega arith)
 
 made_of : (L size : ℕ) (lefts : List Left) (ending : Ending) → Cascade L (made_graph size) ((made_grammar size).rules ∷ []) lefts ending
