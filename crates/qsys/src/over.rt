@@ -63,7 +63,7 @@ pub fn run_over<R: Read, W: Write>(
         ⊎ ((result.status ≡ Status.Memory) × (result.sink.taken ≡ [])) }
     ensures nothing_read { AreRefused (map string_bytes words.now) → result.source.given ≡ [] }
 
-    // No more is asked for than one byte past the longest text.
+    // At most one byte more than a text may have is given, and a text is too long exactly where it is.
     ensures gives { Gives [] result.source.given (most_text_bytes + 1) (result.status ≡ Status.TooLong) }
     ensures read_fault { result.status ≡ Status.ReadFault → 0 < result.source.faults }
     ensures write_fault { result.status ≡ Status.WriteFault → 0 < result.sink.sink.faults }
