@@ -1,5 +1,5 @@
--- The made deck of a size k: a chain of 2^k words, and a grammar that joins two trees of one level into a tree of the next
--- level, until one tree of level k is left. This deck is this project's own.
+-- The made deck of a size k: a chain of 2^k words, and a grammar that joins two trees of one level into a tree of the
+-- next level, until one tree of level k is left. This deck is this project's own.
 use Rattle.std.specs.Prelude.{ℕ, ◌+◌, ◌-◌, ◌^◌, List, [], ◌∷◌, ◌++◌, None, map, flat_map, codes, decimal}
 use Rattle.std.specs.List.{range_with_len}
 use Rattle.std.proofs.Common.{refl, lit≤}
@@ -28,8 +28,8 @@ levels k = range_with_len 0 (k + 1)
 abbrev pub words : ℕ → List ℕ
 words k = range_with_len 1 (2 ^ k)
 
--- The names of the labels, in the order in which the text has them first: M, which is the name of the grammar, T0 to Tk, and
--- M1 to M(2^k).
+-- The names of the labels, in the order in which the text has them first: M, which is the name of the grammar, T0 to
+-- Tk, and M1 to M(2^k).
 abbrev pub made_names : ℕ → List (List ℕ)
 made_names k = codes "M" ∷ (map level_name (levels k) ++ map word_name (words k))
 
@@ -76,7 +76,8 @@ made_graph k = line_graph 1 (map (word_tree k) (words k)) 2
 
 -- The text, line by line. A rule: `T0(I*) + T0(J*) == T1(I*).`
 abbrev pub level_line : ℕ → List ℕ
-level_line i = line (level_name i ++ (codes "(I*) + " ++ (level_name i ++ (codes "(J*) == " ++ (level_name (i + 1) ++ codes "(I*).")))))
+level_line i =
+    line (level_name i ++ (codes "(I*) + " ++ (level_name i ++ (codes "(J*) == " ++ (level_name (i + 1) ++ codes "(I*).")))))
 
 -- The words with a plus sign between two: `T0(M1) + T0(M2)`
 abbrev pub word_text : ℕ → List ℕ

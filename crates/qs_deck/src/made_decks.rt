@@ -89,7 +89,8 @@ fn second_var() -> Var
 
 /// The pattern of a tree with this label, and with these patterns of its subtrees.
 fn labelled(label: Label, kids: Vec<Pattern>) -> Pattern
-    ensures { (behind : Patterns) → pattern_before result behind ≡ node_first (Head.Label label) (patterns kids.items) behind }
+    ensures { (behind : Patterns)
+        → pattern_before result behind ≡ node_first (Head.Label label) (patterns kids.items) behind }
 {
     Pattern::Node {
         head: Head::Label(label),
@@ -117,7 +118,8 @@ fn of_level(alloc: Global, level: u32, var: Var) -> Result<Pattern, AllocError>
 /// The left side of the rule that joins two trees of this level.
 fn level_left(alloc: Global, level: u32) -> Result<Vec<Pattern>, AllocError>
     requires { level ≤ 13 }
-    ensures { IfOk result (λ side. patterns side.items ≡ of_level level first_var (of_level level second_var no_pattern)) }
+    ensures { IfOk result (λ side. patterns side.items
+        ≡ of_level level first_var (of_level level second_var no_pattern)) }
 {
     let first = of_level(alloc, level, first_var())?;
     let second = of_level(alloc, level, second_var())?;
@@ -191,8 +193,8 @@ fn made_graph(alloc: Global, size: u32) -> Result<Graph, AllocError>
     Graph::line(alloc, 1, 2, trees)
 }
 
-/// The made deck of this size, from 0 to 13: a chain of 2^size words, and a grammar that joins two trees of one level into a
-/// tree of the next, until one tree is left. The error comes where memory was wanting.
+/// The made deck of this size, from 0 to 13: a chain of 2^size words, and a grammar that joins two trees of one level
+/// into a tree of the next, until one tree is left. The error comes where memory was wanting.
 pub fn made(alloc: Global, size: u32) -> Result<Deck, AllocError>
     requires { size ≤ 13 }
     ensures names { IfOk result (λ deck. deck.names ≡ made_names size) }

@@ -28,8 +28,8 @@ pub fn what_is_whole_is_read()
 {}
 
 /// From the same names the same tokens lead to one list of names, and tokens of a text always lead to one. No text
-/// stands in it twice if none did before. Where some tokens stand behind others, the names grow by the first and then by
-/// those behind them.
+/// stands in it twice if none did before. Where some tokens stand behind others, the names grow by the first and then
+/// by those behind them.
 pub fn names_grow_to_one()
     ensures one { (text : List ℕ) (ts : List Token) (old new other : List (List ℕ)) → NamesGrow text ts old new → NamesGrow text ts old other → new ≡ other }
     ensures some { (text : List ℕ) (ts : List Token) (old : List (List ℕ)) → All (IsTokenOf text) ts

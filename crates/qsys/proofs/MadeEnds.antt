@@ -78,12 +78,12 @@ written_ends job bytes old new answer (Err e) text status kind defined same is =
 written_ends job bytes old new answer (Ok t) text status kind defined same (inl (whole, written)) =
     let all : WritesDefined job bytes old new status = record { text = text; defined = defined; written = subst (λ (b : List ℕ). new ≡ append_known old b) same written } in
     subst (EndsAsDefined job bytes old new) (sym whole) (⊎_elim
-        (λ done. subst (EndsAsDefined job bytes old new) (sym done) (subst (WritesDefined job bytes old new) done all))
-        (λ limited. subst (EndsAsDefined job bytes old new) (sym limited) (subst (WritesDefined job bytes old new) limited all))
-        kind)
+    (λ done. subst (EndsAsDefined job bytes old new) (sym done) (subst (WritesDefined job bytes old new) done all))
+    (λ limited. subst (EndsAsDefined job bytes old new) (sym limited) (subst (WritesDefined job bytes old new) limited all))
+    kind)
 written_ends job bytes old new answer (Ok t) text status kind defined same (inr (stopped, begun)) =
     let front : WritesProperPrefix job bytes old new =
-        record { text = text; status = status; defined = defined; written = subst (λ (b : List ℕ). AppendsProperPrefix old new b) same begun } in
+    record { text = text; status = status; defined = defined; written = subst (λ (b : List ℕ). AppendsProperPrefix old new b) same begun } in
     ⊎_elim
     (λ failed. subst (EndsAsDefined job bytes old new) (sym failed) front)
     (λ wanting. subst (EndsAsDefined job bytes old new) (sym wanting) (inr front))

@@ -20,7 +20,8 @@ use Rattle.qsys.specs.Defined.{IsDefined, status_of}
 -- prefix, and the answer is that the sink failed or that memory was wanting.
 abbrev pub Delivers : Option (List ℕ) → Option (List ℕ) → List ℕ → Status → Status → Type 0
 Delivers old new text status answer =
-    ((answer ≡ status) × (new ≡ append_known old text)) ⊎ (((answer ≡ WriteFault) ⊎ (answer ≡ Memory)) × AppendsProperPrefix old new text)
+    ((answer ≡ status) × (new ≡ append_known old text))
+    ⊎ (((answer ≡ WriteFault) ⊎ (answer ≡ Memory)) × AppendsProperPrefix old new text)
 
 -- Where there was memory for the text, it was delivered; where there was none, nothing was written.
 abbrev pub IsWritten : {E : Type 0} → Result (Vec ℕ Global) E → Option (List ℕ) → Option (List ℕ) → Status → Status → Type 0

@@ -1,4 +1,5 @@
--- What a job is defined to write, for the bytes that it read where it reads, and with which status it is to end. This project's own.
+-- What a job is defined to write, for the bytes that it read where it reads, and with which status it is to end. This
+-- project's own.
 use Rattle.std.specs.Prelude.{◌≡◌, ℕ, ◌^◌, List, [], ◌∷◌, length}
 use Rattle.qs_lex.specs.declared.refusal.Refusal.{Refusal}
 use Rattle.qs_graph.specs.Graphs.{QGraph}
@@ -80,8 +81,8 @@ pub record IsMadeOf (limit size : ℕ) (text : List ℕ) (status : Status) : Typ
   pub text_is : text ≡ summary limit size left
   pub status_is : status ≡ status_of ending
 
--- For this job and these bytes this text is defined, with this status. Where the job reads, the bytes are a text that is
--- refused, or mean a deck, with which the command is done; `made` doesn't depend on them.
+-- For this job and these bytes this text is defined, with this status. Where the job reads, the bytes are a text that
+-- is refused, or mean a deck, with which the command is done; `made` doesn't depend on them.
 pub data IsDefined (job : Job) (bytes text : List ℕ) (status : Status) : Type 0 where
   of_refused : Reads job.command → IsRefusal bytes text status → IsDefined job bytes text status
   of_deck : IsAnswer job bytes text status → IsDefined job bytes text status

@@ -92,14 +92,15 @@ fn answer<K: Sink>(alloc: Global, job: &Job, bytes: &[u8], sink: &mut K) -> Stat
     }
 }
 
-/// Runs the made deck of the job's size, and writes a line that tells what is left. `Memory` comes where memory was wanting;
-/// nothing is written then.
+/// Runs the made deck of the job's size, and writes a line that tells what is left. `Memory` comes where memory was
+/// wanting; nothing is written then.
 fn tell_made<K: Sink>(alloc: Global, job: &Job, sink: &mut K) -> Status
     requires limit { IsLimit job.now.limit }
     requires size { job.now.size ≤ 13 }
     requires command { job.now.command ≡ Command.Made }
     ensures headline { (bytes : List ℕ) → EndsAsDefined job.now bytes (K.written sink.old) (K.written sink.new) result }
-    ensures kinds { (result ≡ Status.Done) ⊎ (result ≡ Status.Limit) ⊎ (result ≡ Status.WriteFault) ⊎ (result ≡ Status.Memory) }
+    ensures kinds { (result ≡ Status.Done) ⊎ (result ≡ Status.Limit)
+        ⊎ (result ≡ Status.WriteFault) ⊎ (result ≡ Status.Memory) }
     ensures fault { result ≡ Status.WriteFault → HasRisen (K.faults sink.old) (K.faults sink.new) }
     ensures no_fault { result ≢ Status.WriteFault → K.faults sink.new ≡ K.faults sink.old }
     ensures count { K.faults sink.old ≤ K.faults sink.new }
@@ -111,8 +112,8 @@ fn tell_made<K: Sink>(alloc: Global, job: &Job, sink: &mut K) -> Status
     write_text(sink, summary(alloc, job.size, job.limit, &end), status)
 }
 
-/// Reads the source to its end and the deck that it means, and writes to the sink what is defined; `run_still` tells the
-/// answers.
+/// Reads the source to its end and the deck that it means, and writes to the sink what is defined; `run_still` tells
+/// the answers.
 fn read_and_answer<S: Source, K: Sink>(
     alloc: Global,
     job: &Job,
@@ -138,7 +139,8 @@ fn read_and_answer<S: Source, K: Sink>(
     ensures too_long { (n : ℕ) × TakesBytes (S.left source.old) (S.left source.new) n × (n ≤ most_text_bytes + 1)
         × (result ≡ Status.TooLong ↔ (n ≡ most_text_bytes + 1)) }
     ensures gives { Gives (S.given source.old) (S.given source.new) (most_text_bytes + 1) (result ≡ Status.TooLong) }
-    ensures nothing_written { (result ≡ Status.ReadFault) ⊎ (result ≡ Status.TooLong) → K.written sink.new ≡ K.written sink.old }
+    ensures nothing_written { (result ≡ Status.ReadFault) ⊎ (result ≡ Status.TooLong)
+        → K.written sink.new ≡ K.written sink.old }
     ensures write_fault { result ≡ Status.WriteFault → HasRisen (K.faults sink.old) (K.faults sink.new) }
     ensures no_read_fault { result ≢ Status.ReadFault → S.faults source.new ≡ S.faults source.old }
     ensures no_write_fault { result ≢ Status.WriteFault → K.faults sink.new ≡ K.faults sink.old }
@@ -156,15 +158,15 @@ fn read_and_answer<S: Source, K: Sink>(
     answer(alloc, job, &bytes, sink)
 }
 
-/// Does the job: reads the source to its end and the deck that it means, and writes to the sink what is defined; or makes a
-/// deck, and reads nothing. The limit is from 1 to 100,000 and the size from 0 to 13. One worker does it, whatever the job
-/// says of workers. It always returns, and never waits.
+/// Does the job: reads the source to its end and the deck that it means, and writes to the sink what is defined; or
+/// makes a deck, and reads nothing. The limit is from 1 to 100,000 and the size from 0 to 13. One worker does it,
+/// whatever the job says of workers. It always returns, and never waits.
 ///
-/// - `run` runs the grammars one after another and writes what each leaves, when it has ended; `check` writes the deck and
-///   `graph` its graph. For a text that isn't accepted its first fault is told. `made` runs the made deck of the job's size,
-///   and tells in one line what is left; `Refused`, `ReadFault` and `TooLong` don't come for it.
-/// - `Done`, `Refused` and `Limit` come where the whole text that is defined was written, and, but for `made`, the source was
-///   read to its end.
+/// - `run` runs the grammars one after another and writes what each leaves, when it has ended; `check` writes the
+///   deck and `graph` its graph. For a text that isn't accepted its first fault is told. `made` runs the made deck of
+///   the job's size, and tells in one line what is left; `Refused`, `ReadFault` and `TooLong` don't come for it.
+/// - `Done`, `Refused` and `Limit` come where the whole text that is defined was written, and, but for `made`, the
+///   source was read to its end.
 /// - `ReadFault` comes only where the source's count of faults rose in this call, and `TooLong` exactly where
 ///   4,194,305 bytes were taken; nothing is written then.
 /// - `WriteFault` comes only where the sink's count of faults rose in this call; a proper prefix of the text that is
@@ -180,8 +182,8 @@ pub fn run_still<S: Source, K: Sink>(
     requires limit { IsLimit job.now.limit }
     requires size { job.now.size ≤ 13 }
 
-    // Where the source tells its bytes, exactly what is defined for them is written; only too many bytes, a fault that is
-    // counted or want of memory stops it, at a prefix.
+    // Where the source tells its bytes, exactly what is defined for them is written; only too many bytes, a fault
+    // that is counted or want of memory stops it, at a prefix.
     ensures headline { (bytes : List ℕ) → S.left source.old ≡ Some bytes
         → EndsAsDefined job.now bytes (K.written sink.old) (K.written sink.new) result }
     // With no fault and not too many bytes, only memory can be wanting.
@@ -190,17 +192,20 @@ pub fn run_still<S: Source, K: Sink>(
         → WritesDefined job.now bytes (K.written sink.old) (K.written sink.new) result ⊎ (result ≡ Status.Memory) }
 
     // The same of the bytes that the reads of this call gave, which every source tells.
-    ensures as_given { EndsAsGiven job.now (S.given source.old) (S.given source.new) (K.written sink.old) (K.written sink.new) result }
+    ensures as_given { EndsAsGiven job.now (S.given source.old) (S.given source.new)
+        (K.written sink.old) (K.written sink.new) result }
     // A command that reads, reads to the end before it writes; the one that makes a deck reads nothing.
     ensures ended { Reads job.now.command → IsOfWholeText result → S.has_ended source.new }
     ensures read_to_end { Reads job.now.command → IsOfWholeText result → IsAtEnd (S.left source.new) }
     ensures nothing_read { job.now.command ≡ Command.Made → source.new ≡ source.old }
-    ensures made_answers { job.now.command ≡ Command.Made → (result ≢ Status.Refused) × (result ≢ Status.ReadFault) × (result ≢ Status.TooLong) }
+    ensures made_answers { job.now.command ≡ Command.Made
+        → (result ≢ Status.Refused) × (result ≢ Status.ReadFault) × (result ≢ Status.TooLong) }
 
     ensures read_fault { result ≡ Status.ReadFault → HasRisen (S.faults source.old) (S.faults source.new) }
     ensures too_long { (n : ℕ) × TakesBytes (S.left source.old) (S.left source.new) n × (n ≤ most_text_bytes + 1)
         × (result ≡ Status.TooLong ↔ (n ≡ most_text_bytes + 1)) }
-    ensures nothing_written { (result ≡ Status.ReadFault) ⊎ (result ≡ Status.TooLong) → K.written sink.new ≡ K.written sink.old }
+    ensures nothing_written { (result ≡ Status.ReadFault) ⊎ (result ≡ Status.TooLong)
+        → K.written sink.new ≡ K.written sink.old }
     ensures write_fault { result ≡ Status.WriteFault → HasRisen (K.faults sink.old) (K.faults sink.new) }
     ensures no_read_fault { result ≢ Status.ReadFault → S.faults source.new ≡ S.faults source.old }
     ensures no_write_fault { result ≢ Status.WriteFault → K.faults sink.new ≡ K.faults sink.old }

@@ -38,8 +38,14 @@ pub fn status_of(end: &StageEnd) -> Status
 }
 
 /// Appends the firings and the arcs that are left, with a stop behind them.
-fn append_counts(alloc: Global, firings: u32, arcs: u32, out: &mut Vec<u8>) -> Result<(), AllocError>
-    ensures { OnOk result (out.new.items ≡ out.old.items ++ (decimal firings ++ (codes " " ++ (decimal arcs ++ codes ".")))) }
+fn append_counts(
+    alloc: Global,
+    firings: u32,
+    arcs: u32,
+    out: &mut Vec<u8>,
+) -> Result<(), AllocError>
+    ensures { OnOk result (out.new.items
+        ≡ out.old.items ++ (decimal firings ++ (codes " " ++ (decimal arcs ++ codes ".")))) }
 {
     append_number(alloc, firings, out)?;
     out.extend_from_slice(b" ")?;
