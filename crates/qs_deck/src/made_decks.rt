@@ -5,7 +5,8 @@ ghost use Rattle.std.specs.List.{range_with_len};
 ghost use Rattle.std.specs.String.{string_bytes};
 ghost use Rattle.qs_pattern.specs.Patterns.{Patterns, no_pattern, node_first, pattern_before, patterns};
 ghost use Rattle.qs_deck.specs.Decks.{grammar_of};
-ghost use Rattle.qs_deck.specs.MadeDecks.{made_names, first_var, second_var, of_level, level_rule, made_grammar, word_tree, words, made_graph};
+ghost use Rattle.qs_deck.specs.MadeDecks.{made_names, first_var, second_var, of_level, level_rule, made_grammar};
+ghost use Rattle.qs_deck.specs.MadeDecks.{word_tree, words, made_graph};
 ghost use Rattle.qs_deck.specs.MadeParts.{numbered};
 
 use crate::deck::Deck;
@@ -118,8 +119,8 @@ fn of_level(alloc: Global, level: u32, var: Var) -> Result<Pattern, AllocError>
 /// The left side of the rule that joins two trees of this level.
 fn level_left(alloc: Global, level: u32) -> Result<Vec<Pattern>, AllocError>
     requires { level ≤ 13 }
-    ensures { IfOk result (λ side. patterns side.items
-        ≡ of_level level first_var (of_level level second_var no_pattern)) }
+    ensures { IfOk result (λ side.
+        patterns side.items ≡ of_level level first_var (of_level level second_var no_pattern)) }
 {
     let first = of_level(alloc, level, first_var())?;
     let second = of_level(alloc, level, second_var())?;

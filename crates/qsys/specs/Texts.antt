@@ -33,12 +33,15 @@ limit_line limit = line (codes "-LIMITE- " ++ (decimal limit ++ codes "."))
 abbrev pub limit_block : List (List ℕ) → Label → ℕ → List ℕ
 limit_block names name limit = title_line names name ++ limit_line limit
 
+-- How many firings were done, and how many arcs are left, at the end of a line.
+abbrev pub counts_text : ℕ → ℕ → List ℕ
+counts_text firings arcs = decimal firings ++ (codes " " ++ (decimal arcs ++ codes "."))
+
 -- The summary of a made deck has its size, the number of its words, how many firings were done, and how many arcs are
 -- left: `-FAIT- 3 8 13 1.`
 abbrev pub summary_line : ℕ → ℕ → ℕ → ℕ → List ℕ
 summary_line size words firings arcs =
-    line (codes "-FAIT- " ++ (decimal size ++ (codes " " ++ (decimal words
-    ++ (codes " " ++ (decimal firings ++ (codes " " ++ (decimal arcs ++ codes "."))))))))
+    line (codes "-FAIT- " ++ (decimal size ++ (codes " " ++ (decimal words ++ (codes " " ++ counts_text firings arcs)))))
 
 -- The name by which a cause is told.
 abbrev pub cause_name : Cause → List ℕ

@@ -93,7 +93,7 @@ fn answer<K: Sink>(alloc: Global, job: &Job, bytes: &[u8], sink: &mut K) -> Stat
 }
 
 /// Runs the made deck of the job's size, and writes a line that tells what is left. `Memory` comes where memory was
-/// wanting; nothing is written then.
+/// wanting.
 fn tell_made<K: Sink>(alloc: Global, job: &Job, sink: &mut K) -> Status
     requires limit { IsLimit job.now.limit }
     requires size { job.now.size ≤ 13 }
@@ -129,7 +129,6 @@ fn read_and_answer<S: Source, K: Sink>(
         → ¬ HasRisen (S.faults source.old) (S.faults source.new) → ¬ HasRisen (K.faults sink.old) (K.faults sink.new)
         → WritesDefined job.now bytes (K.written sink.old) (K.written sink.new) result ⊎ (result ≡ Status.Memory) }
 
-    // The same of the bytes that the reads of this call gave, which every source tells.
     ensures as_given { EndsAsGiven job.now (S.given source.old) (S.given source.new)
         (K.written sink.old) (K.written sink.new) result }
     ensures ended { IsOfWholeText result → S.has_ended source.new }
@@ -162,9 +161,9 @@ fn read_and_answer<S: Source, K: Sink>(
 /// makes a deck, and reads nothing. The limit is from 1 to 100,000 and the size from 0 to 13. One worker does it,
 /// whatever the job says of workers. It always returns, and never waits.
 ///
-/// - `run` runs the grammars one after another and writes what each leaves, when it has ended; `check` writes the
-///   deck and `graph` its graph. For a text that isn't accepted its first fault is told. `made` runs the made deck of
-///   the job's size, and tells in one line what is left; `Refused`, `ReadFault` and `TooLong` don't come for it.
+/// - `run` runs the grammars one after another and writes what each leaves, when it has ended; `check` writes the deck
+///   and `graph` its graph. For a text that isn't accepted its first fault is told. `made` runs the made deck of the
+///   job's size, and tells in one line what is left; `Refused`, `ReadFault` and `TooLong` don't come for it.
 /// - `Done`, `Refused` and `Limit` come where the whole text that is defined was written, and, but for `made`, the
 ///   source was read to its end.
 /// - `ReadFault` comes only where the source's count of faults rose in this call, and `TooLong` exactly where
@@ -182,8 +181,8 @@ pub fn run_still<S: Source, K: Sink>(
     requires limit { IsLimit job.now.limit }
     requires size { job.now.size ≤ 13 }
 
-    // Where the source tells its bytes, exactly what is defined for them is written; only too many bytes, a fault
-    // that is counted or want of memory stops it, at a prefix.
+    // Where the source tells its bytes, exactly what is defined for them is written; only too many bytes, a fault that is
+    // counted or want of memory stops it, at a prefix.
     ensures headline { (bytes : List ℕ) → S.left source.old ≡ Some bytes
         → EndsAsDefined job.now bytes (K.written sink.old) (K.written sink.new) result }
     // With no fault and not too many bytes, only memory can be wanting.
@@ -204,6 +203,7 @@ pub fn run_still<S: Source, K: Sink>(
     ensures read_fault { result ≡ Status.ReadFault → HasRisen (S.faults source.old) (S.faults source.new) }
     ensures too_long { (n : ℕ) × TakesBytes (S.left source.old) (S.left source.new) n × (n ≤ most_text_bytes + 1)
         × (result ≡ Status.TooLong ↔ (n ≡ most_text_bytes + 1)) }
+    ensures gives { Gives (S.given source.old) (S.given source.new) (most_text_bytes + 1) (result ≡ Status.TooLong) }
     ensures nothing_written { (result ≡ Status.ReadFault) ⊎ (result ≡ Status.TooLong)
         → K.written sink.new ≡ K.written sink.old }
     ensures write_fault { result ≡ Status.WriteFault → HasRisen (K.faults sink.old) (K.faults sink.new) }

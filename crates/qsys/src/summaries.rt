@@ -1,10 +1,10 @@
 //! What is told of a made deck.
 
-ghost use Rattle.std.specs.Prelude.{◌≡◌, ◌⊎◌, ◌≤◌, ◌^◌, ◌++◌, IfOk, OnOk, codes, decimal};
+ghost use Rattle.std.specs.Prelude.{◌≡◌, ◌⊎◌, ◌≤◌, ◌^◌, ◌++◌, IfOk, OnOk};
 ghost use Rattle.qs_deck.specs.MadeDecks.{made_grammar, made_graph};
 ghost use Rattle.qs_cascade.specs.Stages.{IsStageEnd};
 ghost use Rattle.qsys.specs.Words.{IsLimit};
-ghost use Rattle.qsys.specs.Texts.{summary_line};
+ghost use Rattle.qsys.specs.Texts.{counts_text, summary_line};
 ghost use Rattle.qsys.specs.Ends.{left_of, ending_of};
 ghost use Rattle.qsys.specs.Defined.{status_of, summary};
 ghost use Rattle.qsys.specs.Answers.{IsOfWholeText};
@@ -44,8 +44,7 @@ fn append_counts(
     arcs: u32,
     out: &mut Vec<u8>,
 ) -> Result<(), AllocError>
-    ensures { OnOk result (out.new.items
-        ≡ out.old.items ++ (decimal firings ++ (codes " " ++ (decimal arcs ++ codes ".")))) }
+    ensures { OnOk result (out.new.items ≡ out.old.items ++ counts_text firings arcs) }
 {
     append_number(alloc, firings, out)?;
     out.extend_from_slice(b" ")?;
