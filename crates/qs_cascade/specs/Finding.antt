@@ -1,5 +1,6 @@
 -- What the search for the firings of a round has found: the middle of its proof.
-use Rattle.std.specs.Prelude.{ℕ, zero, suc, ◌+◌, ◌-◌, ◌≤◌, ◌<◌, ◌≡◌, ◌⊎◌, Bool, true, false, List, [], ◌∷◌, ◌++◌, length, map, Option, Some, None}
+use Rattle.std.specs.Prelude.{ℕ, zero, suc, ◌+◌, ◌-◌, ◌≤◌, ◌<◌, ◌≡◌, ◌⊎◌, Bool, true, false, Option, Some, None}
+use Rattle.std.specs.Prelude.{List, [], ◌∷◌, ◌++◌, length, map}
 use Rattle.std.proofs.Common.{Global}
 use Rattle.std.specs.declared.vec.Vec.{Vec}
 use Rattle.qs_tree.specs.Lists.{◌∈◌, Ascends}

@@ -9,7 +9,7 @@ use std::marker::Model;
 pub struct RawRule {
     /// The patterns of the left side.
     pub left: Vec<Pattern>,
-    /// The patterns that take their place.
+    /// The patterns of the right side, whose trees are added beside those of the left.
     pub right: Vec<Pattern>,
     /// The condition, if there is one.
     pub cond: Option<Cond>,

@@ -1,7 +1,8 @@
 -- The number with which the program ends, by its status. This project's own.
 use Rattle.std.specs.Prelude.{ℕ}
 use Rattle.qsys.specs.declared.status.Status.{Status}
-use Rattle.qsys.specs.declared.status.Status.TheVariants.{Done, Usage, Refused, Limit, ReadFault, TooLong, WriteFault, Memory}
+use Rattle.qsys.specs.declared.status.Status.TheVariants.{Done, Usage, Refused, Limit}
+use Rattle.qsys.specs.declared.status.Status.TheVariants.{ReadFault, TooLong, WriteFault, Memory}
 
 abbrev pub number_of : Status → ℕ
 number_of Done = 0

@@ -27,7 +27,8 @@ pub fn words_written_out()
         (record { command = Run; limit = 10000; workers = 4; size = 13 }) }
     ensures minus_zero { IsJobOf (codes "run" ∷ codes "--size=-0" ∷ [])
         (record { command = Run; limit = 10000; workers = 4; size = 0 }) }
-    ensures all_options { IsJobOf (codes "--size" ∷ codes "1" ∷ codes "run" ∷ codes "--workers=2" ∷ codes "--limit" ∷ codes "3" ∷ [])
+    ensures all_options { IsJobOf (codes "--size" ∷ codes "1" ∷ codes "run"
+            ∷ codes "--workers=2" ∷ codes "--limit" ∷ codes "3" ∷ [])
         (record { command = Run; limit = 3; workers = 2; size = 1 }) }
     ensures check { IsJobOf (codes "check" ∷ [])
         (record { command = Check; limit = 10000; workers = 4; size = 8 }) }
