@@ -1,79 +1,97 @@
 //! What is read of small decks: the numbers of their labels, grammars and rules, and a refusal in words.
 
-use qs_deck::{Deck, DeckEnd, read_deck};
-use qs_tree::Label;
-use std::alloc::Global;
-use std::test::Fail;
+use qs_deck::{Deck, DeckEnd, System, read_deck};
+use qs_graph::Edge;
+use qs_tree::{Label, Names};
 
-/// What is read from a text, which has at most 4,194,304 bytes.
-fn answer(alloc: Global, text: &str) -> Result<Result<Deck, DeckEnd>, Fail> {
-    if text.len() > 4_194_304 {
-        return Err(Fail::new("too long"));
+/// Whether these are the texts of all labels, in the order of their numbers.
+fn are_named(names: &Names, wanted: &[&str]) -> bool {
+    if wanted.len() != names.len() as usize {
+        return false;
     }
-    Ok(read_deck(alloc, text.as_bytes()))
+    for number in 0..names.len() {
+        if wanted[number as usize] != names.name(Label(number)) {
+            return false;
+        }
+    }
+    true
 }
 
-/// The texts of the labels of a deck in the order of their numbers, each with a line feed behind it.
-fn names_of(alloc: Global, deck: &Deck) -> Result<String, Fail> {
-    let mut out = String::new(alloc);
-    for number in 0..deck.names.len() {
-        out.push_str(deck.names.name(Label(number)))?;
-        out.push('\n')?;
+/// Whether these are the numbers of the grammars' names, each with how many rules its grammar has.
+fn are_grammars(systems: &[System], wanted: &[(u32, usize)]) -> bool {
+    for (system, (name, rules)) in systems.iter().zip(wanted) {
+        if system.name.0 != *name || system.rules.len() != *rules {
+            return false;
+        }
     }
-    Ok(out)
+    systems.len() == wanted.len()
 }
 
-/// For each grammar of a deck the number of its name and how many rules it has, and then how many arcs its graph has.
-fn numbers_of(alloc: Global, deck: &Deck) -> Result<Vec<usize>, Fail> {
-    let mut out = Vec::new(alloc);
-    for system in &deck.systems {
-        out.push(system.name.0 as usize)?;
-        out.push(system.rules.len())?;
+/// Whether these are the numbers of the roots' labels, one for each arc.
+fn are_roots(arcs: &[Edge], wanted: &[u32]) -> bool {
+    for (arc, root) in arcs.iter().zip(wanted) {
+        if arc.tree.view().root().0 != *root {
+            return false;
+        }
     }
-    out.push(deck.graph.edges().len())?;
-    Ok(out)
+    arcs.len() == wanted.len()
+}
+
+/// A text, the texts of its labels, its grammars and the roots of its arcs, as the calls above want them.
+type Row = (
+    &'static str,
+    &'static [&'static str],
+    &'static [(u32, usize)],
+    &'static [u32],
+);
+
+/// Whether the deck is the one of the row.
+fn is_wanted(deck: &Deck, row: Row) -> bool {
+    are_named(&deck.names, row.1)
+        && are_grammars(&deck.systems, row.2)
+        && are_roots(deck.graph.edges(), row.3)
 }
 
 #[test]
-fn a_label_has_the_number_of_its_first_occurrence(rt: HostRuntime) -> Result<(), Fail> {
-    let alloc = rt.alloc();
-    let text = "# Z\n-SYSTEME- \"S\".\nB + A*(I*) == \"B\"(\"\",A) / C -DANS- I*,\"a\"\"b\".\n\
-                -SYSTEME- S.\n-SYSTEME- \"A\".\n-GRAPHE-\n-1- É + \"É\"(B,\"S\",D) -2-.\n-FIN-\n# Y";
-    let deck = answer(alloc, text)??;
-    assert_eq!(rt;
-        names_of(alloc, &deck)?.as_str(),
-        "S\nB\n\nA\nC\na\"b\nÉ\nD\n"
-    );
-    assert_eq!(rt;
-        numbers_of(alloc, &deck)?.as_slice(),
-        [0, 1, 0, 0, 3, 0, 2].as_slice()
-    );
-    Ok(())
+fn a_label_has_the_number_of_its_first_occurrence_and_a_grammar_its_rules(rt: HostRuntime) {
+    let rows: [Row; 3] = [
+        (
+            "# Z\n-SYSTEME- \"S\".\nB + A*(I*) == \"B\"(\"\",A) / C -DANS- I*,\"a\"\"b\".\n\
+             -SYSTEME- S.\n-SYSTEME- \"A\".\n-GRAPHE-\n-1- É + \"É\"(B,\"S\",D) -2-.\n-FIN-\n# Y",
+            &["S", "B", "", "A", "C", "a\"b", "É", "D"],
+            &[(0, 1), (0, 0), (3, 0)],
+            &[6, 6],
+        ),
+        (
+            "-SYSTEME- A. A == B. B + A == \"A\".\n-SYSTEME- É.\n\
+             -GRAPHE- -1- A -2-. -2- B -3-. -FIN-",
+            &["A", "B", "É"],
+            &[(0, 2), (2, 0)],
+            &[0, 1],
+        ),
+        // A known text keeps its number, the empty one too.
+        (
+            "-SYSTEME- S. -GRAPHE- -1- \"\" + \"S\" + s + \"\" -2-. -FIN-",
+            &["S", "", "s"],
+            &[(0, 0)],
+            &[1, 0, 2, 1],
+        ),
+    ];
+    for row in rows {
+        assert!(rt; row.0.len() <= 4_194_304);
+        let deck = read_deck(rt.alloc(), row.0.as_bytes()).expect(&rt, row.0);
+        assert!(rt; is_wanted(&deck, row), "at {}", row.0);
+    }
 }
 
 #[test]
-fn grammars_have_their_rules(rt: HostRuntime) -> Result<(), Fail> {
+fn a_refusal_is_told_in_words(rt: HostRuntime) {
     let alloc = rt.alloc();
-    let text =
-        "-SYSTEME- A. A == B. B + A == \"A\".\n-SYSTEME- É.\n-GRAPHE- -1- A -2-. -2- B -3-. -FIN-";
-    let deck = answer(alloc, text)??;
-    assert_eq!(rt; names_of(alloc, &deck)?.as_str(), "A\nB\nÉ\n");
-    assert_eq!(rt;
-        numbers_of(alloc, &deck)?.as_slice(),
-        [0, 2, 2, 0, 2].as_slice()
-    );
-    Ok(())
-}
-
-#[test]
-fn a_refusal_is_told_in_words(rt: HostRuntime) -> Result<(), Fail> {
-    let alloc = rt.alloc();
-    let Err(refused) = answer(alloc, "-SYSTEME- S.\nA = B.")? else {
-        return Err(Fail::new("accepted"));
-    };
-    let told = format!(in alloc; "{refused}")?;
-    assert_eq!(rt; told.as_str(), "line 2, column 3: BadCharacter");
-    let wanting = format!(in alloc; "{}", DeckEnd::Memory)?;
-    assert_eq!(rt; wanting.as_str(), "there is no memory");
-    Ok(())
+    let refused = read_deck(alloc, b"-SYSTEME- S.\nA = B.")
+        .err()
+        .expect(&rt, "a refusal");
+    let told = format!(in alloc; "{refused}").expect(&rt, "its words");
+    assert!(rt; told.as_str() == "line 2, column 3: BadCharacter");
+    let wanting = format!(in alloc; "{}", DeckEnd::Memory).expect(&rt, "its words");
+    assert!(rt; wanting.as_str() == "there is no memory");
 }

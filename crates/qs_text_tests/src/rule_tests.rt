@@ -1,35 +1,34 @@
 //! What is read of small rules: how many there are, where they end, and the byte of each label and variable.
 
-ghost use Rattle.std.specs.Prelude.{◌≡◌, ◌≤◌, [], length, IfOk};
+ghost use Rattle.std.specs.Prelude.{◌≡◌, ◌≤◌, [], length};
 ghost use Rattle.std.specs.List.{All};
 ghost use Rattle.qs_ruletext.specs.Rules.{IsWellRead};
 
 use qs_lex::{tokens, too_deep};
-use qs_ruletext::{Memory, RawRule, TextEnd, read_rules, write_rule};
+use qs_ruletext::{Memory, RawRule, read_rules, write_rule};
 use qs_tree::Names;
 use std::alloc::Global;
-use std::test::Fail;
+use std::process::Abort;
 
-/// What is read from a place of the tokens of a text.
-fn read(
+/// The rules that are read from a place of the tokens of a text, with the place behind them.
+fn read<R: Abort>(
+    rt: &R,
     alloc: Global,
     text: &str,
     from: usize,
     names: &mut Names,
-) -> Result<Result<(Vec<RawRule>, usize), TextEnd>, Fail>
+) -> (Vec<RawRule>, usize)
     requires short { length text.now ≤ 4194304 }
     requires none { names.old ≡ [] }
-    ensures { IfOk result (λ answer. IfOk answer (λ found. All (λ raw. IsWellRead (length names.new) raw.rule) found.0.items)) }
+    ensures { All (λ raw. IsWellRead (length names.new) raw.rule) result.0.items }
 {
-    let found = tokens(alloc, text)?;
+    let found = tokens(alloc, text).expect(rt, "tokens");
     let None = too_deep(&found) else {
-        return Err(Fail::new("too deep"));
+        panic!(rt; "too deep")
     };
-    if from > found.len() || found.len() > 4_194_304 {
-        return Err(Fail::new("too many"));
-    }
+    assert!(rt; from <= found.len() && found.len() <= 4_194_304);
     let answer = read_rules(alloc, text, &found, from, names);
-    Ok(answer)
+    answer.expect(rt, "rules")
 }
 
 /// Appends a rule that was read, in canonical spelling.
@@ -42,46 +41,8 @@ fn append_raw(alloc: Global, raw: &RawRule, names: &Names, out: &mut Vec<u8>) ->
     }
 }
 
-/// The rules of a text, one behind the other in canonical spelling.
-fn respelled(alloc: Global, text: &str) -> Result<String, Fail>
-    requires { length text.now ≤ 4194304 }
-{
-    let mut names = Names::new(alloc);
-    let (rules, _) = read(alloc, text, 0, &mut names)??;
-    let mut out = Vec::new(alloc);
-    for raw in &rules {
-        append_raw(alloc, raw, &names, &mut out)?;
-    }
-    Ok(String::from_utf8(out)?)
-}
-
-/// How many rules are read from a place of the tokens of a text, the place behind them, and how many labels there are.
-fn counts(alloc: Global, text: &str, from: usize) -> Result<(usize, usize, u32), Fail>
-    requires { length text.now ≤ 4194304 }
-{
-    let mut names = Names::new(alloc);
-    let (rules, behind) = read(alloc, text, from, &mut names)??;
-    Ok((rules.len(), behind, names.len()))
-}
-
-/// The bytes of the cells of the rules of a text, and for each rule how many trees its sides have.
-fn cells(alloc: Global, text: &str) -> Result<(Vec<u32>, Vec<usize>), Fail>
-    requires { length text.now ≤ 4194304 }
-{
-    let mut names = Names::new(alloc);
-    let (rules, _) = read(alloc, text, 0, &mut names)??;
-    let mut bytes = Vec::new(alloc);
-    let mut trees = Vec::new(alloc);
-    for raw in &rules {
-        bytes.extend_from_slice(&raw.at)?;
-        trees.push(raw.left.len())?;
-        trees.push(raw.right.len())?;
-    }
-    Ok((bytes, trees))
-}
-
 #[test]
-fn rules_end_where_the_next_token_begins_none(rt: HostRuntime) -> Result<(), Fail> {
+fn rules_end_where_the_next_token_begins_none(rt: HostRuntime) {
     let rows = [
         ("", 0, (0, 0, 0)),
         ("-GRAPHE- -1- A -2-. -FIN-", 0, (0, 0, 0)),
@@ -98,28 +59,38 @@ fn rules_end_where_the_next_token_begins_none(rt: HostRuntime) -> Result<(), Fai
     ];
     for (text, from, wanted) in rows {
         assert!(rt; text.len() <= 4_194_304);
-        assert_eq!(rt; counts(rt.alloc(), text, from)?, wanted, "at {text}");
+        let mut names = Names::new(rt.alloc());
+        let (rules, behind) = read(&rt, rt.alloc(), text, from, &mut names);
+        assert!(rt; (rules.len(), behind, names.len()) == wanted, "at {text}");
     }
-    Ok(())
 }
 
 #[test]
-fn each_cell_has_its_byte(rt: HostRuntime) -> Result<(), Fail> {
+fn each_cell_has_its_byte(rt: HostRuntime) {
     let text = "É(U*,\"b\"()) + I* == B*9 / (U* -DANS- X(V*)).\n\n\"É\" == C + D + É.";
-    let (bytes, trees) = cells(rt.alloc(), text)?;
-    let wanted = [0, 3, 6, 15, 21, 28, 38, 40, 47, 55, 59, 63];
-    assert_eq!(rt; bytes.as_slice(), wanted.as_slice());
-    assert_eq!(rt; trees.as_slice(), [2, 1, 1, 3].as_slice());
-    Ok(())
+    let mut names = Names::new(rt.alloc());
+    let (rules, _) = read(&rt, rt.alloc(), text, 0, &mut names);
+    assert!(rt; rules.len() == 2);
+    assert!(rt; rules[0].left.len() == 2 && rules[0].right.len() == 1);
+    assert!(rt; rules[0].at.as_slice() == [0, 3, 6, 15, 21, 28, 38, 40].as_slice());
+    assert!(rt; rules[1].left.len() == 1 && rules[1].right.len() == 3);
+    assert!(rt; rules[1].at.as_slice() == [47, 55, 59, 63].as_slice());
 }
 
 #[test]
-fn a_thousand_parentheses_in_a_tree_are_read(rt: HostRuntime) -> Result<(), Fail> {
-    let mut tree = "A(".repeat(rt.alloc(), 1000)?;
-    tree.push_str("U*")?;
-    tree.push_str(&")".repeat(rt.alloc(), 1000)?)?;
-    let text = format!(in rt.alloc(); "{tree} == B / {tree} -DANS- A.")?;
+fn a_thousand_parentheses_in_a_tree_are_read(rt: HostRuntime) {
+    let alloc = rt.alloc();
+    let opened = "A(".repeat(alloc, 1000).expect(&rt, "parentheses");
+    let closed = ")".repeat(alloc, 1000).expect(&rt, "parentheses");
+    let text = format!(in alloc; "{opened}U*{closed} == B / {opened}U*{closed} -DANS- A.").expect(
+        &rt, "a text",
+    );
     assert!(rt; text.len() <= 4_194_304);
-    assert_eq!(rt; respelled(rt.alloc(), &text)?, text);
-    Ok(())
+    let mut names = Names::new(alloc);
+    let (rules, _) = read(&rt, alloc, &text, 0, &mut names);
+    let mut out = Vec::new(alloc);
+    for raw in &rules {
+        append_raw(alloc, raw, &names, &mut out).expect(&rt, "a rule's text");
+    }
+    assert!(rt; out.as_slice() == text.as_bytes());
 }

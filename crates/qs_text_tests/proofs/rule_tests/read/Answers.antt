@@ -4,5 +4,5 @@ use Rattle.qs_lex.specs.Nesting.{IsTooDeep}
 use Rattle.qs_text_tests.proofs.rule_tests.read.Goals as goal
 
 pub read_rules-answer-requires-clause-shallow : goal.read_rules-answer-requires-clause-shallow
-read_rules-answer-requires-clause-shallow c =
+read_rules-answer-requires-clause-shallow g c =
     subst (λ (ts : List Token). (index : ℕ) → IsTooDeep ts index → ⊥) (c.deref.ensures.value ∙ sym c.deref-2.ensures.value) c.in-None.ensures.none
