@@ -1,13 +1,15 @@
 //! Which firings fire, their order, and copies.
 
-use crate::reading::{arcs_of, deck_of, rules_of};
-use qs_deck::Deck;
+ghost use Rattle.std.specs.Prelude.{◌<◌, length};
+
+use crate::reading::rules_of;
+use qs_deck::read_deck;
 use qs_firing::{Firing, View, fires, order};
-use qs_pattern::{Subst, Value, Var};
-use qs_tree::{Forest, Label, same_forest};
+use qs_graph::Edge;
+use qs_pattern::{Rule, Subst, Value, Var};
+use qs_tree::{Forest, ForestRef, Label, same_forest};
 use std::alloc::{AllocError, Global};
-use std::cmp::Ordering;
-use std::test::Fail;
+use std::process::Abort;
 
 const U: Var = Var {
     letter: b'U',
@@ -19,164 +21,159 @@ const SENTENCE: &str =
     "-SYSTEME- S.\nLE + CHAT == GN(LE,CHAT).\nGN(U*) + DORT == P(GN(U*),V(DORT)).\n-GRAPHE-\n\
      -1- LE -3-.\n-3- CHAT -4-.\n-4- DORT -2-.\n-1- GN(LE,CHAT) -4-.\n-FIN-\n";
 
-/// The arcs of the sentence, of which the last is added behind the others.
-fn sentence(alloc: Global, deck: &Deck) -> Result<View, Fail> {
-    let arcs = arcs_of(deck);
-    if arcs.len() != 4 {
-        return Err(Fail::new("another number of arcs"));
+/// A firing of this rule on this path. Where `list` is the number of one of these arcs, U* stands for the subtrees of
+/// its tree: at 0 for no tree, at 3 for LE and CHAT.
+fn firing(
+    alloc: Global,
+    arcs: &[Edge],
+    rule: u32,
+    path: &[u32],
+    list: Option<usize>,
+) -> Result<Firing, AllocError> {
+    let mut subst = Subst::empty(alloc);
+    if let Some(arc) = list
+        && let Some(edge) = arcs.get(arc)
+    {
+        subst.add(
+            U,
+            Value::Forest(Forest::of(alloc, edge.tree.view().kids())?),
+        )?;
     }
-    let mut view = View::empty(alloc);
-    view.add(&arcs[..3])?;
-    view.add(&arcs[3..])?;
-    Ok(view)
-}
-
-/// The trees LE and CHAT.
-fn noun(alloc: Global, deck: &Deck) -> Result<Forest, Fail> {
-    match arcs_of(deck).last() {
-        Some(edge) => Ok(Forest::of(alloc, edge.tree.view().kids())?),
-        None => Err(Fail::new("no arc")),
-    }
-}
-
-/// A firing without values.
-fn firing(alloc: Global, rule: u32, path: &[u32]) -> Result<Firing, AllocError> {
     Ok(Firing {
         rule,
-        path: Vec::from_slice(alloc, path)?,
-        subst: Subst::empty(alloc),
-    })
-}
-
-/// A firing of the second rule, in which U* stands for this list.
-fn sentence_firing(alloc: Global, path: &[u32], list: Forest) -> Result<Firing, AllocError> {
-    let mut subst = Subst::empty(alloc);
-    subst.add(U, Value::Forest(list))?;
-    Ok(Firing {
-        rule: 1,
         path: Vec::from_slice(alloc, path)?,
         subst,
     })
 }
 
-#[test]
-fn a_view_has_the_arcs_that_were_added_in_order(rt: HostRuntime) -> Result<(), Fail> {
-    let deck = deck_of(rt.alloc(), SENTENCE)?;
-    let view = sentence(rt.alloc(), &deck)?;
-    assert_eq!(rt; view.len(), 4);
-    // S is the label 0.
+/// Whether the firing of this rule on this path fires, where U* stands for what `firing` says.
+fn fires_on(
+    alloc: Global,
+    rules: &[Rule],
+    view: &View,
+    arcs: &[Edge],
+    row: (u32, &[u32], Option<usize>),
+) -> Result<bool, AllocError>
+    requires { length rules.now < 4294967295 }
+{
+    let given = firing(alloc, arcs, row.0, row.1, row.2)?;
+    fires(alloc, rules, view, &given)
+}
+
+/// The arcs of the sentence, of which the last is added behind the others.
+fn view_of<R: Abort>(rt: &R, alloc: Global, arcs: &[Edge]) -> View {
+    assert!(rt; arcs.len() == 4);
+    let mut view = View::empty(alloc);
+    view.add(&arcs[..3]).expect(rt, "three arcs");
+    view.add(&arcs[3..]).expect(rt, "the last arc");
+    view
+}
+
+/// Whether the view has the arcs of the sentence in order. S is the label 0.
+fn has_arcs(view: &View) -> bool {
     for (arc, from, to, label) in [(0, 1, 3, 1), (1, 3, 4, 2), (2, 4, 2, 4), (3, 1, 4, 3)] {
-        if arc < view.len() {
-            let edge = view.edge(arc);
-            assert_eq!(rt;
-                (edge.from, edge.to, edge.tree.view().root()),
-                (from, to, Label(label))
-            );
+        if arc >= view.len() {
+            return false;
+        }
+        let edge = view.edge(arc);
+        if edge.from != from || edge.to != to || edge.tree.view().root() != Label(label) {
+            return false;
         }
     }
-    Ok(())
+    view.len() == 4
 }
 
-#[test]
-fn a_firing_fires_on_a_path_that_its_left_side_stands_for(rt: HostRuntime) -> Result<(), Fail> {
-    let alloc = rt.alloc();
-    let deck = deck_of(alloc, SENTENCE)?;
-    let view = sentence(alloc, &deck)?;
-    let rules = rules_of(&deck)?;
+/// Looks at which firings fire over the arcs of the sentence.
+fn look_at_firings<R: Abort>(rt: &R, alloc: Global, rules: &[Rule], view: &View, arcs: &[Edge]) {
     assert!(rt; rules.len() == 2);
-    for (path, want) in [
-        (&[0, 1], true),
-        // Arcs that aren't a path, in either order.
-        (&[1, 0], false),
-        (&[0, 2], false),
-        // Other trees.
-        (&[1, 2], false),
-        (&[3, 2], false),
-        // An arc that isn't there.
-        (&[0, 4], false),
-        (&[4, 1], false),
-    ] {
-        let given = firing(alloc, 0, path)?;
-        assert_eq!(rt; fires(alloc, rules, &view, &given)?, want, "path {path:?}");
-    }
-    for (path, want) in [(&[3, 2], true), (&[0, 2], false)] {
-        let given = sentence_firing(alloc, path, noun(alloc, &deck)?)?;
-        assert_eq!(rt; fires(alloc, rules, &view, &given)?, want, "path {path:?}");
-    }
-    Ok(())
-}
-
-#[test]
-fn a_firing_needs_a_rule_a_long_enough_path_and_all_variables(rt: HostRuntime) -> Result<(), Fail> {
-    let alloc = rt.alloc();
-    let deck = deck_of(alloc, SENTENCE)?;
-    let view = sentence(alloc, &deck)?;
-    let rules = rules_of(&deck)?;
-    assert!(rt; rules.len() == 2);
-    let refused: [(u32, &[u32]); 5] = [(7, &[0]), (2, &[0, 1]), (0, &[0]), (0, &[]), (1, &[3, 2])];
-    for (rule, path) in refused {
-        let given = firing(alloc, rule, path)?;
-        assert!(rt;
-            !fires(alloc, rules, &view, &given)?,
-            "rule {rule}, path {path:?}"
-        );
-    }
-    // Another list than the one on the arc.
-    let given = sentence_firing(alloc, &[3, 2], Forest::empty(alloc))?;
-    assert!(rt; !fires(alloc, rules, &view, &given)?);
-    Ok(())
-}
-
-#[test]
-fn firings_are_ordered_by_rule_and_then_by_path_in_dictionary_order(
-    rt: HostRuntime,
-) -> Result<(), Fail> {
-    let alloc = rt.alloc();
-    let ascending: [(u32, &[u32]); 7] = [
-        (0, &[5]),
-        (1, &[]),
-        (1, &[0]),
-        (1, &[0, 1]),
-        (1, &[1]),
-        (1, &[1, 5]),
-        (1, &[2]),
+    let rows = [
+        ("a path", (0, [0, 1].as_slice(), None), true),
+        ("a path in the other order", (0, &[1, 0], None), false),
+        ("arcs that aren't a path", (0, &[0, 2], None), false),
+        ("other trees", (0, &[1, 2], None), false),
+        ("other trees, one with subtrees", (0, &[3, 2], None), false),
+        ("a last arc that isn't there", (0, &[0, 4], None), false),
+        ("a first arc that isn't there", (0, &[4, 1], None), false),
+        ("the list on the arc", (1, &[3, 2], Some(3)), true),
+        ("the list and another path", (1, &[0, 2], Some(3)), false),
+        (
+            "another list than the one on the arc",
+            (1, &[3, 2], Some(0)),
+            false,
+        ),
+        ("no list", (1, &[3, 2], None), false),
+        ("a rule far behind the last", (7, &[0], None), false),
+        ("the rule behind the last", (2, &[0, 1], None), false),
+        ("a path that is too short", (0, &[0], None), false),
+        ("no path", (0, &[], None), false),
     ];
-    for (i, (rule, path)) in ascending.iter().enumerate() {
-        for (j, (other_rule, other_path)) in ascending.iter().enumerate() {
-            let a = firing(alloc, *rule, path)?;
-            let b = firing(alloc, *other_rule, other_path)?;
-            assert!(rt; order(&a, &b) == i.cmp(&j), "{i} and {j}");
+    for (what, row, want) in rows {
+        let found = fires_on(alloc, rules, &view, arcs, row).expect(rt, what);
+        assert!(rt; found == want, "{what}");
+    }
+}
+
+#[test]
+fn a_view_has_its_arcs_and_a_firing_fires_where_rule_path_and_values_agree(rt: HostRuntime) {
+    let deck = read_deck(rt.alloc(), SENTENCE.as_bytes()).expect(&rt, "the sentence");
+    let view = view_of(&rt, rt.alloc(), deck.graph.edges());
+    assert!(rt; has_arcs(&view));
+    look_at_firings(&rt, rt.alloc(), rules_of(&deck), &view, deck.graph.edges());
+}
+
+/// Firings in ascending order.
+fn ascending<R: Abort>(rt: &R, alloc: Global, arcs: &[Edge]) -> Vec<Firing> {
+    let rows = [
+        (0, [5].as_slice(), None),
+        (1, &[], None),
+        (1, &[0], None),
+        (1, &[0, 1], None),
+        (1, &[1], None),
+        (1, &[1, 5], None),
+        (1, &[2], None),
+        // Without a list, with the empty one, and with one of two trees.
+        (1, &[3, 2], None),
+        (1, &[3, 2], Some(0)),
+        (1, &[3, 2], Some(3)),
+    ];
+    let mut firings = Vec::new(alloc);
+    for (rule, path, list) in rows {
+        let next = firing(alloc, arcs, rule, path, list).expect(rt, "a firing");
+        firings.push(next).expect(rt, "room for it");
+    }
+    firings
+}
+
+/// Whether each two of the firings are ordered as their places are.
+fn are_ordered(firings: &[Firing]) -> bool {
+    for (i, a) in firings.iter().enumerate() {
+        for (j, b) in firings.iter().enumerate() {
+            if order(a, b) != i.cmp(&j) {
+                return false;
+            }
         }
     }
-    Ok(())
+    true
+}
+
+/// Whether a copy of the last of them is one of the second rule on the arcs 3 and 2, where U* stands for this list.
+fn is_copied<R: Abort>(rt: &R, given: &Firing, want: ForestRef<'_>) -> bool {
+    let copy = given.copy().expect(rt, "a copy");
+    copy.rule == 1
+        && copy.path.as_slice() == [3, 2].as_slice()
+        && copy.subst.pairs().len() == 1
+        && matches!(copy.subst.get(U), Some(Value::Forest(list)) if same_forest(list.view(), want))
 }
 
 #[test]
-fn firings_on_one_path_are_ordered_by_the_lengths_of_lists(rt: HostRuntime) -> Result<(), Fail> {
-    let alloc = rt.alloc();
-    let deck = deck_of(alloc, SENTENCE)?;
-    let none = sentence_firing(alloc, &[3, 2], Forest::empty(alloc))?;
-    let both = sentence_firing(alloc, &[3, 2], noun(alloc, &deck)?)?;
-    let without = firing(alloc, 1, &[3, 2])?;
-    assert!(rt; order(&without, &none) == Ordering::Less);
-    assert!(rt; order(&none, &both) == Ordering::Less);
-    assert!(rt; order(&both, &none) == Ordering::Greater);
-    assert!(rt; order(&both, &both) == Ordering::Equal);
-    Ok(())
-}
-
-#[test]
-fn a_copy_of_a_firing_is_equal(rt: HostRuntime) -> Result<(), Fail> {
-    let alloc = rt.alloc();
-    let deck = deck_of(alloc, SENTENCE)?;
-    let given = sentence_firing(alloc, &[3, 2], noun(alloc, &deck)?)?;
-    let copy = given.copy()?;
-    assert_eq!(rt; copy.rule, 1);
-    assert!(rt; copy.path.as_slice() == [3, 2].as_slice());
-    assert_eq!(rt; copy.subst.pairs().len(), 1);
-    let want = noun(alloc, &deck)?;
-    assert!(rt;
-        matches!(copy.subst.get(U), Some(Value::Forest(list)) if same_forest(list.view(), want.view()))
-    );
-    Ok(())
+fn firings_are_ordered_by_rule_then_path_then_lengths_of_lists_and_a_copy_is_equal(
+    rt: HostRuntime,
+) {
+    let deck = read_deck(rt.alloc(), SENTENCE.as_bytes()).expect(&rt, "the sentence");
+    let arcs = deck.graph.edges();
+    let firings = ascending(&rt, rt.alloc(), arcs);
+    assert!(rt; firings.len() == 10 && are_ordered(&firings));
+    assert!(rt; arcs.len() == 4);
+    let last = &arcs[3];
+    assert!(rt; is_copied(&rt, &firings[9], last.tree.view().kids()));
 }

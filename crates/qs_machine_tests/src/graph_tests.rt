@@ -1,120 +1,74 @@
 //! Graphs of given arcs, and copies.
 
-ghost use Rattle.std.specs.Prelude.{IfOk};
-ghost use Rattle.qs_graph.specs.Validity.{LeadsInside};
-
-use crate::reading::{arcs_of, deck_of};
-use qs_graph::{Edge, Graph, GraphEnd, Memory};
+use qs_deck::read_deck;
+use qs_graph::{Edge, Graph, GraphEnd};
 use qs_tree::{Label, Tree, same};
 use std::alloc::Global;
-use std::test::Fail;
+use std::process::Abort;
 
-#[test]
-fn a_chain_of_three_trees_has_two_inner_nodes(rt: HostRuntime) -> Result<(), Fail> {
-    let alloc = rt.alloc();
+/// Whether the arcs lead from these nodes to these.
+fn lead(arcs: &[Edge], ends: &[(u32, u32)]) -> bool {
+    for (edge, (from, to)) in arcs.iter().zip(ends) {
+        if edge.from != *from || edge.to != *to {
+            return false;
+        }
+    }
+    arcs.len() == ends.len()
+}
+
+/// The chain of three trees of one node each.
+fn chain_of_three<R: Abort>(rt: &R, alloc: Global) -> Graph {
     let mut trees = Vec::new(alloc);
     for label in 0..3 {
-        trees.push(Tree::leaf(alloc, Label(label))?)?;
+        let tree = Tree::leaf(alloc, Label(label)).expect(rt, "a tree");
+        trees.push(tree).expect(rt, "room for it");
     }
-    let graph = Graph::line(alloc, 1, 2, trees)?;
-    assert_eq!(rt; graph.nodes(), 4);
-    for (edge, ends) in graph.edges().iter().zip(&[(1, 3), (3, 4), (4, 2)]) {
-        assert_eq!(rt; (edge.from, edge.to), *ends);
-    }
-    assert_eq!(rt; (graph.entry(), graph.exit()), (1, 2));
-    Ok(())
+    assert!(rt; trees.len() == 3);
+    Graph::line(alloc, 1, 2, trees).expect(rt, "the chain")
 }
 
 #[test]
-fn a_diamond_is_a_graph_with_its_arcs_in_order(rt: HostRuntime) -> Result<(), Fail> {
-    let alloc = rt.alloc();
-    let ends = [(1, 4), (4, 3), (1, 2), (2, 3)];
-    let graph = graph_of(alloc, 4, &ends).map_err(|_| Fail::from("refused"))?;
-    assert_eq!(rt; graph.nodes(), 4);
-    assert_eq!(rt; graph.edges().len(), 4);
-    for (edge, ends) in graph.edges().iter().zip(&ends) {
-        assert_eq!(rt; (edge.from, edge.to), *ends);
-    }
-    assert_eq!(rt; (graph.entry(), graph.exit()), (1, 3));
-    Ok(())
+fn a_chain_of_three_trees_has_two_inner_nodes(rt: HostRuntime) {
+    let graph = chain_of_three(&rt, rt.alloc());
+    assert!(rt; lead(graph.edges(), &[(1, 3), (3, 4), (4, 2)]));
+    assert!(rt; (graph.nodes(), graph.entry(), graph.exit()) == (4, 1, 2));
 }
 
 #[test]
-fn a_cycle_is_seen_before_entries_and_entries_before_exits(rt: HostRuntime) -> Result<(), Fail> {
+fn a_node_that_no_arc_touches_is_an_entry_too(rt: HostRuntime) {
     let alloc = rt.alloc();
-    let rows = [
-        // A loop of one arc alone, and one beside a path.
-        (1, [(1, 1)].as_slice(), "Cycle"),
-        (3, &[(1, 2), (3, 3)], "Cycle"),
-        // There and back, alone and on the way from an entry to an exit.
-        (2, &[(1, 2), (2, 1)], "Cycle"),
-        (4, &[(1, 2), (2, 3), (3, 2), (3, 4)], "Cycle"),
-        // Two cycles, and a cycle beside two entries and two exits.
-        (4, &[(1, 2), (2, 1), (3, 4), (4, 3)], "Cycle"),
-        (4, &[(1, 3), (2, 3), (3, 4), (4, 3)], "Cycle"),
-        (4, &[(3, 1), (4, 3), (3, 2), (3, 4)], "Cycle"),
-        (3, &[(1, 3), (2, 3)], "Entries"),
-        (4, &[(1, 3), (2, 4)], "Entries"),
-        // A node that no arc touches is an entry and an exit.
-        (3, &[(1, 2)], "Entries"),
-        (3, &[(1, 2), (1, 3)], "Exits"),
-        (3, &[(1, 2), (2, 3)], "none"),
-    ];
-    for (nodes, ends, want) in rows {
-        let found = match graph_of(alloc, nodes, ends) {
-            Ok(_) => "none",
-            Err(GraphEnd::Cycle) => "Cycle",
-            Err(GraphEnd::Entries) => "Entries",
-            Err(GraphEnd::Exits) => "Exits",
-            Err(GraphEnd::Memory) => "Memory",
-        };
-        assert_eq!(rt; found, want, "{nodes} nodes, {ends:?}");
-    }
-    Ok(())
+    let tree = Tree::leaf(alloc, Label(0)).expect(&rt, "a tree");
+    let arcs = vec![in alloc;
+        Edge {
+            from: 1,
+            to: 2,
+            tree
+        },
+    ]
+    .expect(&rt, "an arc");
+    assert!(rt; Graph::new(alloc, 3, arcs).err() == Some(GraphEnd::Entries));
 }
 
-#[test]
-fn copies_of_a_graph_and_of_its_arcs_are_equal(rt: HostRuntime) -> Result<(), Fail> {
-    let alloc = rt.alloc();
-    let deck = deck_of(
-        alloc,
-        "-SYSTEME- S. -GRAPHE- -2- A(B,C(D)) + E -1-. -2- F -4-. -4- G(H) -1-. -FIN-",
-    )?;
-    let copy = deck.graph.copy()?;
-    assert_eq!(rt; (copy.nodes(), copy.entry(), copy.exit()), (4, 2, 1));
-    assert_eq!(rt; copy.edges().len(), 4);
-    for (edge, other) in arcs_of(&deck).iter().zip(copy.edges()) {
-        let third = edge.copy()?;
-        for given in [other, &third] {
-            assert_eq!(rt; (given.from, given.to), (edge.from, edge.to));
-            assert!(rt; same(given.tree.view(), edge.tree.view()));
+/// Whether both arcs lead from the same node to the same node with equal trees.
+fn is_same(edge: &Edge, other: &Edge) -> bool {
+    edge.from == other.from && edge.to == other.to && same(edge.tree.view(), other.tree.view())
+}
+
+/// Whether the other arcs and copies of these are equal to these.
+fn are_copied<R: Abort>(rt: &R, arcs: &[Edge], others: &[Edge]) -> bool {
+    for (edge, other) in arcs.iter().zip(others) {
+        if !is_same(edge, other) || !is_same(edge, &edge.copy().expect(rt, "a copy")) {
+            return false;
         }
     }
-    Ok(())
+    arcs.len() == others.len()
 }
 
-// The graph of arcs between these nodes with equal trees.
-fn graph_of(alloc: Global, nodes: u32, ends: &[(u32, u32)]) -> Result<Graph, GraphEnd> {
-    let arcs = arcs(alloc, nodes, ends)?;
-    if arcs.is_empty() || arcs.len() > 100 {
-        return Err(GraphEnd::Memory);
-    }
-    Graph::new(alloc, nodes, arcs)
-}
-
-// Arcs with equal trees, as far as they lead from node to node.
-fn arcs(alloc: Global, nodes: u32, ends: &[(u32, u32)]) -> Result<Vec<Edge>, Memory>
-    ensures { IfOk result (λ v. LeadsInside (record { nodes = nodes; arcs = v.items })) }
-{
-    let mut arcs = Vec::new(alloc);
-    for (from, to) in ends {
-        if 1 <= *from && *from <= nodes && 1 <= *to && *to <= nodes {
-            arcs.push(Edge {
-                from: *from,
-                to: *to,
-                tree: Tree::leaf(alloc, Label(0))?,
-            })?;
-        }
-    }
-    Ok(arcs)
+#[test]
+fn copies_of_a_graph_and_of_its_arcs_are_equal(rt: HostRuntime) {
+    let text = "-SYSTEME- S. -GRAPHE- -2- A(B,C(D)) + E -1-. -2- F -4-. -4- G(H) -1-. -FIN-";
+    let deck = read_deck(rt.alloc(), text.as_bytes()).expect(&rt, "a deck");
+    let copy = deck.graph.copy().expect(&rt, "a copy");
+    assert!(rt; (copy.nodes(), copy.entry(), copy.exit()) == (4, 2, 1));
+    assert!(rt; copy.edges().len() == 4 && are_copied(&rt, deck.graph.edges(), copy.edges()));
 }

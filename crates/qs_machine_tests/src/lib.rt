@@ -1,4 +1,5 @@
-//! Tests of the values that rules act on: labels and trees, variables and substitutions, graphs, firings and matches.
+//! Tests of the values that rules act on: labels and trees, variables and substitutions, graphs, firings and
+//! matches.
 #![tactic(auto)]
 
 #[cfg(test)]

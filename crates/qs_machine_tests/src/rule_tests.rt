@@ -1,9 +1,11 @@
 //! Variables, what they stand for, and copies of rules.
 
-use crate::reading::{deck_of, leaves, rules_of};
-use qs_pattern::{Cond, Pattern, Subst, Value, Var, VarClass};
-use qs_tree::{Label, Tree};
-use std::test::Fail;
+use crate::reading::rules_of;
+use qs_deck::read_deck;
+use qs_pattern::{Cond, Pattern, Rule, Subst, Value, Var, VarClass};
+use qs_tree::{Forest, Label, Tree};
+use std::alloc::Global;
+use std::process::Abort;
 
 const X: Label = Label(0);
 
@@ -52,38 +54,52 @@ fn variables_have_the_letters_of_three_classes_and_numbers_up_to_99(rt: HostRunt
     }
 }
 
-#[test]
-fn a_substitution_gives_each_variable_its_value(rt: HostRuntime) -> Result<(), Fail> {
-    let alloc = rt.alloc();
-    let mut subst = Subst::empty(alloc);
-    subst.add(I, Value::Tree(Tree::leaf(alloc, X)?))?;
-    subst.add(U, Value::Forest(leaves(alloc, &[X, Y])?))?;
-    let copy = subst.copy()?;
-    for given in [&subst, &copy] {
-        assert!(rt; matches!(given.get(I), Some(Value::Tree(tree)) if tree.view().root() == X));
-        assert!(rt;
-            matches!(given.get(U), Some(Value::Forest(forest)) if forest.view().len() == 2)
-        );
-        assert!(rt; given.get(U1).is_none());
+/// The list of X and Y.
+fn pair<R: Abort>(rt: &R, alloc: Global) -> Forest {
+    let mut list = Forest::empty(alloc);
+    for label in [X, Y] {
+        let tree = Tree::leaf(alloc, label).expect(rt, "a tree");
+        list.push(tree.view()).expect(rt, "a tree more");
     }
-    Ok(())
+    list
+}
+
+/// Whether I* stands for X, U* for two trees and U*1 for nothing.
+fn has_values(given: &Subst) -> bool {
+    matches!(given.get(I), Some(Value::Tree(tree)) if tree.view().root() == X)
+        && matches!(given.get(U), Some(Value::Forest(list)) if list.view().len() == 2)
+        && given.get(U1).is_none()
 }
 
 #[test]
-fn a_copy_of_a_rule_has_its_sides_and_its_condition(rt: HostRuntime) -> Result<(), Fail> {
-    let alloc = rt.alloc();
-    let deck = deck_of(
-        alloc,
-        "-SYSTEME- S. I* == I* + I*. I* == I* / I* -HORS- A. -GRAPHE- -1- A -2-. -FIN-",
-    )?;
-    let [doubled, kept] = rules_of(&deck)? else {
-        return Err(Fail::new("another number of rules"));
-    };
-    let doubled = doubled.copy()?;
-    assert_eq!(rt; (doubled.left().len(), doubled.right().len()), (1, 2));
-    assert!(rt; matches!(doubled.left()[0], Pattern::Tree(var) if var == I));
-    assert!(rt; doubled.cond().is_none());
-    let kept = kept.copy()?;
-    assert!(rt; matches!(kept.cond(), Some(Cond::Outside { .. })));
-    Ok(())
+fn a_substitution_gives_each_variable_its_value(rt: HostRuntime) {
+    let mut subst = Subst::empty(rt.alloc());
+    let tree = Tree::leaf(rt.alloc(), X).expect(&rt, "a tree");
+    subst.add(I, Value::Tree(tree)).expect(&rt, "a tree");
+    subst
+        .add(U, Value::Forest(pair(&rt, rt.alloc())))
+        .expect(&rt, "a list");
+    assert!(rt; has_values(&subst) && has_values(&subst.copy().expect(&rt, "a copy")));
+}
+
+/// Whether a copy of a rule has one pattern, I*, on its left side, two on its right one, and no condition.
+fn is_doubled<R: Abort>(rt: &R, rule: &Rule) -> bool {
+    let copy = rule.copy().expect(rt, "a copy");
+    matches!(copy.left(), [Pattern::Tree(var)] if *var == I)
+        && copy.right().len() == 2
+        && copy.cond().is_none()
+}
+
+/// Whether a copy of a rule has a condition that one list isn't in another.
+fn is_kept<R: Abort>(rt: &R, rule: &Rule) -> bool {
+    let copy = rule.copy().expect(rt, "a copy");
+    matches!(copy.cond(), Some(Cond::Outside { .. }))
+}
+
+#[test]
+fn a_copy_of_a_rule_has_its_sides_and_its_condition(rt: HostRuntime) {
+    let text = "-SYSTEME- S. I* == I* + I*. I* == I* / I* -HORS- A. -GRAPHE- -1- A -2-. -FIN-";
+    let deck = read_deck(rt.alloc(), text.as_bytes()).expect(&rt, "a deck");
+    let rules = rules_of(&deck);
+    assert!(rt; rules.len() == 2 && is_doubled(&rt, &rules[0]) && is_kept(&rt, &rules[1]));
 }

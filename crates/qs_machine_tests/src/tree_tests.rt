@@ -1,97 +1,32 @@
 //! What no clause says: that calls succeed where memory is left, and that deep trees and long lists are no trouble.
 
-ghost use Rattle.std.specs.Prelude.{◌≡◌, ◌<◌, ◌+◌, [], ◌∷◌, IfOk};
-ghost use Rattle.qs_tree.specs.Trees.{node};
+ghost use Rattle.std.specs.Prelude.{◌<◌, ◌+◌, IfOk};
 ghost use Rattle.qs_tree.specs.Cells.{IsTree, tree_of};
 ghost use Rattle.qs_tree.specs.Text.{IsNamed};
 
-use qs_tree::{
-    Cell, Forest, Label, Memory, Names, Tree, TreeRef, same, same_forest, write_label, write_tree,
-};
+use qs_tree::{Cell, Forest, Label, Memory, Names, Tree, TreeRef, same, same_forest, write_tree};
 use std::alloc::Global;
-use std::test::Fail;
 
 #[test]
-fn a_known_text_keeps_its_number(rt: HostRuntime) -> Result<(), Fail> {
-    let mut names = Names::new(rt.alloc());
-    for (text, number) in [("S", 0), ("", 1), ("S", 0), ("s", 2), ("", 1)] {
-        assert!(rt; names.len() < 100);
-        assert_eq!(rt; names.intern(text)?, Label(number));
-        assert!(rt; number < names.len());
-        assert_eq!(rt; names.name(Label(number)), text);
-    }
-    assert_eq!(rt; names.len(), 3);
-    Ok(())
-}
-
-#[test]
-fn labels_are_quoted_where_they_must_be(rt: HostRuntime) -> Result<(), Fail> {
-    for (text, written) in [
-        ("VP2", "VP2"),
-        ("_", "_"),
-        ("AUJOURD'HUI", "AUJOURD'HUI"),
-        ("DÉGAGEMENT", "DÉGAGEMENT"),
-        ("", "\"\""),
-        ("x y", "\"x y\""),
-        ("a\"b", "\"a\"\"b\""),
-        (".", "\".\""),
-        ("APRÈS-MIDI", "\"APRÈS-MIDI\""),
-    ] {
-        let mut names = Names::new(rt.alloc());
-        let label = names.intern(text)?;
-        assert!(rt; label.0 < names.len());
-        let mut out = Vec::new(rt.alloc());
-        write_label(&names, label, &mut out)?;
-        assert_eq!(rt; out.as_slice(), written.as_bytes(), "at {text}");
-    }
-    Ok(())
-}
-
-/// A tree with two subtrees of one node each.
-fn pair(alloc: Global, root: Label, first: Label, second: Label) -> Result<Tree, Memory>
-    ensures { IfOk result (λ tree. tree ≡ node root (node first [] ∷ node second [] ∷ [])) }
-{
+fn copies_of_a_tree_and_of_its_list_are_equal(rt: HostRuntime) {
+    let alloc = rt.alloc();
+    let first = Tree::leaf(alloc, Label(1)).expect(&rt, "a tree");
+    let second = Tree::leaf(alloc, Label(2)).expect(&rt, "a tree");
     let mut kids = Forest::empty(alloc);
-    kids.push(Tree::leaf(alloc, first)?.view())?;
-    kids.push(Tree::leaf(alloc, second)?.view())?;
-    Tree::node(alloc, root, kids.view())
-}
-
-#[test]
-fn a_tree_is_written_with_its_subtrees(rt: HostRuntime) -> Result<(), Fail> {
-    let mut names = Names::new(rt.alloc());
-    for text in ["a\"b", "OK", "x y"] {
-        assert!(rt; names.len() < 3);
-        names.intern(text)?;
-    }
-    assert_eq!(rt; names.len(), 3);
-    let tree = pair(rt.alloc(), Label(0), Label(1), Label(2))?;
-    let mut out = Vec::new(rt.alloc());
-    write_tree(rt.alloc(), &names, tree.view(), &mut out)?;
-    assert!(rt; out.as_slice() == b"\"a\"\"b\"(OK,\"x y\")".as_slice());
-    Ok(())
-}
-
-#[test]
-fn copies_of_a_tree_are_equal(rt: HostRuntime) -> Result<(), Fail> {
-    let tree = pair(rt.alloc(), Label(0), Label(1), Label(2))?;
-    let copy = tree.copy()?;
+    kids.push(first.view()).expect(&rt, "a tree more");
+    kids.push(second.view()).expect(&rt, "a tree more");
+    let tree = Tree::node(alloc, Label(0), kids.view()).expect(&rt, "a tree of two");
+    let copy = tree.copy().expect(&rt, "a copy");
     assert!(rt; same(copy.view(), tree.view()));
-    let second_copy = Tree::of(rt.alloc(), tree.view())?;
+    let second_copy = Tree::of(alloc, tree.view()).expect(&rt, "a second copy");
     assert!(rt; same(second_copy.view(), tree.view()));
-    Ok(())
-}
-
-#[test]
-fn copies_of_a_list_are_equal(rt: HostRuntime) -> Result<(), Fail> {
-    let tree = pair(rt.alloc(), Label(0), Label(1), Label(2))?;
-    let mut list = Forest::of(rt.alloc(), tree.view().kids())?;
+    let mut list = Forest::of(alloc, tree.view().kids()).expect(&rt, "its list");
     assert!(rt; same_forest(list.view(), tree.view().kids()));
-    list.splice(tree.view().kids())?;
-    assert_eq!(rt; list.view().len(), 4);
-    let copy = list.copy()?;
+    list.splice(tree.view().kids())
+        .expect(&rt, "the list twice");
+    assert!(rt; list.view().len() == 4);
+    let copy = list.copy().expect(&rt, "a copy of the list");
     assert!(rt; same_forest(copy.view(), list.view()));
-    Ok(())
 }
 
 /// The cells of a tree in which each node but the last has one subtree.
@@ -112,52 +47,38 @@ fn chain(alloc: Global, label: Label, depth: usize) -> Result<Vec<Cell>, Memory>
     Ok(cells)
 }
 
-/// The text of `chain` with the label `A`.
-fn chain_text(alloc: Global, depth: usize) -> Result<Vec<u8>, Memory> {
-    let mut text = Vec::new(alloc);
-    for _ in 1..depth {
-        text.extend_from_slice(b"A(")?;
-    }
-    text.push(b'A')?;
-    for _ in 1..depth {
-        text.push(b')')?;
-    }
-    Ok(text)
-}
-
 #[test]
-fn a_tree_of_depth_100_000_is_copied_and_compared(rt: HostRuntime) -> Result<(), Fail> {
-    let cells = chain(rt.alloc(), Label(0), 100_000)?;
-    let tree = Tree::of(rt.alloc(), TreeRef { cells: &cells })?;
-    let copy = tree.copy()?;
+fn a_tree_of_depth_100_000_is_copied_compared_and_written(rt: HostRuntime) {
+    let alloc = rt.alloc();
+    let cells = chain(alloc, Label(0), 100_000).expect(&rt, "its cells");
+    let deep = TreeRef { cells: &cells };
+    let tree = Tree::of(alloc, deep).expect(&rt, "the tree");
+    let copy = tree.copy().expect(&rt, "a copy");
     assert!(rt; same(copy.view(), tree.view()));
-    Ok(())
+    let mut names = Names::new(alloc);
+    names.intern("A").expect(&rt, "a name");
+    assert!(rt; names.len() == 1);
+    let mut out = Vec::new(alloc);
+    write_tree(alloc, &names, deep, &mut out).expect(&rt, "its text");
+    let mut wanted = "A(".repeat(alloc, 99_999).expect(&rt, "the front");
+    wanted.push('A').expect(&rt, "the last label");
+    wanted
+        .push_str(&")".repeat(alloc, 99_999).expect(&rt, "the end"))
+        .expect(&rt, "the whole");
+    assert!(rt; out.as_slice() == wanted.as_bytes());
 }
 
 #[test]
-fn a_tree_of_depth_100_000_is_written(rt: HostRuntime) -> Result<(), Fail> {
-    let mut names = Names::new(rt.alloc());
-    names.intern("A")?;
-    assert_eq!(rt; names.len(), 1);
-    let cells = chain(rt.alloc(), Label(0), 100_000)?;
-    let mut out = Vec::new(rt.alloc());
-    write_tree(rt.alloc(), &names, TreeRef { cells: &cells }, &mut out)?;
-    let expected = chain_text(rt.alloc(), 100_000)?;
-    assert!(rt; out == expected);
-    Ok(())
-}
-
-#[test]
-fn a_list_of_100_000_trees_is_copied_and_compared(rt: HostRuntime) -> Result<(), Fail> {
-    let leaf = Tree::leaf(rt.alloc(), Label(1))?;
-    let mut list = Forest::empty(rt.alloc());
+fn a_list_of_100_000_trees_is_copied_and_compared(rt: HostRuntime) {
+    let alloc = rt.alloc();
+    let leaf = Tree::leaf(alloc, Label(1)).expect(&rt, "a tree");
+    let mut list = Forest::empty(alloc);
     for _ in 0..100_000 {
-        list.push(leaf.view())?;
+        list.push(leaf.view()).expect(&rt, "a tree more");
     }
-    assert_eq!(rt; list.view().len(), 100_000);
-    let copy = list.copy()?;
+    assert!(rt; list.view().len() == 100_000);
+    let copy = list.copy().expect(&rt, "a copy");
     assert!(rt; same_forest(copy.view(), list.view()));
-    let tree = Tree::node(rt.alloc(), Label(0), copy.view())?;
-    assert_eq!(rt; tree.view().kids().len(), 100_000);
-    Ok(())
+    let tree = Tree::node(alloc, Label(0), copy.view()).expect(&rt, "a tree of them");
+    assert!(rt; tree.view().kids().len() == 100_000);
 }
