@@ -3,9 +3,7 @@ ghost use Rattle.qs_turn.specs.Passes.{IsPassOf, HoldsNoTurn, number_of, seen_of
 
 use qs_turn::{Memory, Pass, Told, Turns};
 use std::alloc::Global;
-use std::process::Abort;
 use std::sync::Wait;
-use std::test::Fail;
 use std::thread::{Threads, join};
 
 // A list of numbers that stands for itself. A number names the pass that has it.
@@ -96,58 +94,43 @@ fn added_by_two<R: Threads + Wait + Sync>(
 }
 
 #[test]
-fn two_threads_add_a_thousand_numbers_each(rt: HostRuntime) -> Result<(), Fail> {
-    let (numbers, zeros, ones) = added_by_two(&rt, rt.alloc())?;
+fn two_threads_add_a_thousand_numbers_each(rt: HostRuntime) {
+    let (numbers, zeros, ones) = added_by_two(&rt, rt.alloc()).expect(&rt, "two passes");
     assert!(rt; zeros == 1000 && ones == 1000);
-    assert_eq!(rt; numbers.items.len(), 2000);
-    assert_eq!(rt; numbers.items.iter().filter(|n| **n == 0).count(), 1000);
-    assert_eq!(rt; numbers.items.iter().filter(|n| **n == 1).count(), 1000);
-    Ok(())
+    assert!(rt; numbers.items.len() == 2000);
+    assert!(rt; numbers.items.iter().filter(|n| **n == 0).count() == 1000);
+    assert!(rt; numbers.items.iter().filter(|n| **n == 1).count() == 1000);
 }
 
 #[test]
-fn passes_are_numbered_from_zero(rt: HostRuntime) -> Result<(), Fail> {
-    let numbers = Numbers {
-        items: vec![in rt.alloc(); 7]?,
-    };
-    let (turns, passes) = Turns::open(rt.alloc(), numbers, 3)?;
-    assert_eq!(rt; passes.len(), 3);
-    assert_eq!(rt; passes[0].number(), 0);
-    assert_eq!(rt; passes[1].number(), 1);
-    assert_eq!(rt; passes[2].number(), 2);
-    assert_eq!(rt; turns.close(passes).items.as_slice(), [7].as_slice());
-    Ok(())
+fn passes_are_numbered_from_zero(rt: HostRuntime) {
+    let items = vec![in rt.alloc(); 7].expect(&rt, "a number");
+    let (turns, passes) = Turns::open(rt.alloc(), Numbers { items }, 3).expect(&rt, "passes");
+    assert!(rt; passes.len() == 3);
+    assert!(rt; passes[0].number() == 0 && passes[1].number() == 1 && passes[2].number() == 2);
+    assert!(rt; turns.close(passes).items.as_slice() == [7].as_slice());
 }
 
 #[test]
-fn history_of_one_pass_grows_by_what_it_enters(rt: HostRuntime) -> Result<(), Fail> {
-    let numbers = Numbers {
-        items: vec![in rt.alloc(); 7, 7]?,
-    };
-    let (turns, mut passes) = Turns::open(rt.alloc(), numbers, 1)?;
+fn history_of_one_pass_grows_by_what_it_enters(rt: HostRuntime) {
+    let items = vec![in rt.alloc(); 7, 7].expect(&rt, "two numbers");
+    let (turns, mut passes) = Turns::open(rt.alloc(), Numbers { items }, 1).expect(&rt, "a pass");
     let mut pass = passes.pop().unwrap();
     assert!(rt; add_number(&rt, &turns, &mut pass));
     assert!(rt; add_number(&rt, &turns, &mut pass));
     assert!(rt; add_number(&rt, &turns, &mut pass));
     passes.push_reserved(pass);
-    assert_eq!(rt;
-        turns.close(passes).items.as_slice(),
-        [7, 7, 0, 0, 0].as_slice()
-    );
-    Ok(())
+    assert!(rt; turns.close(passes).items.as_slice() == [7, 7, 0, 0, 0].as_slice());
 }
 
 #[test]
-fn leaving_without_an_entry_keeps_the_history(rt: HostRuntime) -> Result<(), Fail> {
-    let numbers = Numbers {
-        items: vec![in rt.alloc(); 7]?,
-    };
-    let (turns, mut passes) = Turns::open(rt.alloc(), numbers, 1)?;
+fn leaving_without_an_entry_keeps_the_history(rt: HostRuntime) {
+    let items = vec![in rt.alloc(); 7].expect(&rt, "a number");
+    let (turns, mut passes) = Turns::open(rt.alloc(), Numbers { items }, 1).expect(&rt, "a pass");
     let mut pass = passes.pop().unwrap();
     let mut held = turns.enter(&rt, &mut pass);
-    assert_eq!(rt; held.value().items.as_slice(), [7].as_slice());
+    assert!(rt; held.value().items.as_slice() == [7].as_slice());
     turns.leave(&mut pass, held, None);
     passes.push_reserved(pass);
-    assert_eq!(rt; turns.close(passes).items.as_slice(), [7].as_slice());
-    Ok(())
+    assert!(rt; turns.close(passes).items.as_slice() == [7].as_slice());
 }
