@@ -28,7 +28,7 @@ pub fn words_written_out()
     ensures minus_zero { IsJobOf (codes "run" ∷ codes "--size=-0" ∷ [])
         (record { command = Run; limit = 10000; workers = 4; size = 0 }) }
     ensures all_options { IsJobOf (codes "--size" ∷ codes "1" ∷ codes "run"
-            ∷ codes "--workers=2" ∷ codes "--limit" ∷ codes "3" ∷ [])
+        ∷ codes "--workers=2" ∷ codes "--limit" ∷ codes "3" ∷ [])
         (record { command = Run; limit = 3; workers = 2; size = 1 }) }
     ensures check { IsJobOf (codes "check" ∷ [])
         (record { command = Check; limit = 10000; workers = 4; size = 8 }) }
