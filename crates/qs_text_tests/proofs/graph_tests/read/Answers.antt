@@ -1,4 +1,4 @@
-use Rattle.std.proofs.Common.{◌≡◌, ℕ, sym, ◌∙◌, subst, List}
+use Rattle.std.proofs.Common.{ℕ, sym, ◌∙◌, subst, List}
 use Rattle.qs_lex.specs.declared.token.Token.{Token}
 use Rattle.qs_lex.specs.Nesting.{IsTooDeep}
 use Rattle.qs_text_tests.proofs.graph_tests.read.Goals as goal
