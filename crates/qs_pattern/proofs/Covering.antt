@@ -40,7 +40,7 @@ module _ (s : Substitution) where
     all_covered b c.1 (λ v i. has v (in_append_right (variables_in a) (variables_in b) v i)),
   )
 
-abbrev conditions_variables : Conditions → List Var
+abbrev pub conditions_variables : Conditions → List Var
 conditions_variables cs = over_all_lists [] (λ vs ws. vs ++ ws) variables_in cs
 
 mutual
