@@ -1,6 +1,7 @@
 //! Laws of rounds and closures, over their definitions alone.
 
 ghost use Rattle.std.specs.Prelude.{◌≡◌, ◌⊎◌, ◌↔◌, ◌≤◌, ◌+◌, ◌*◌, ℕ, List, length};
+ghost use Rattle.qs_pattern.specs.Limits.{most_patterns};
 ghost use Rattle.qs_tree.specs.Lists.{◌∈◌};
 ghost use Rattle.qs_tree.specs.Text.{IsNamed};
 ghost use Rattle.qs_pattern.specs.Rules.{Rule, IsAccepted, AreLeftSidesInClass};
@@ -40,8 +41,8 @@ pub fn stages_stay_valid()
 
 /// Each firing of accepted rules adds at most 16 arcs and at most 16 nodes.
 pub fn stages_grow_by_firings()
-    ensures arcs { (R : List Rule) → ((rule : Rule) → rule ∈ R → IsAccepted rule) → (G : QGraph) (n : ℕ) (S : Stage) → Rounds R G n S → length S.graph.arcs ≤ length G.arcs + 16 * length S.done }
-    ensures nodes { (R : List Rule) → ((rule : Rule) → rule ∈ R → IsAccepted rule) → (G : QGraph) (n : ℕ) (S : Stage) → Rounds R G n S → S.graph.nodes ≤ G.nodes + 16 * length S.done }
+    ensures arcs { (R : List Rule) → ((rule : Rule) → rule ∈ R → IsAccepted rule) → (G : QGraph) (n : ℕ) (S : Stage) → Rounds R G n S → length S.graph.arcs ≤ length G.arcs + most_patterns * length S.done }
+    ensures nodes { (R : List Rule) → ((rule : Rule) → rule ∈ R → IsAccepted rule) → (G : QGraph) (n : ℕ) (S : Stage) → Rounds R G n S → S.graph.nodes ≤ G.nodes + most_patterns * length S.done }
 {}
 
 /// Rounds make no labels: where each label in the right sides of accepted rules and in the trees of a graph is one of the

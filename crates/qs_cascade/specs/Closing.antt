@@ -1,5 +1,6 @@
 -- How the rounds end.
 use Rattle.std.specs.Prelude.{ℕ, ◌≤◌, ◌+◌, ◌*◌, List, length, Option, Some, None}
+use Rattle.qs_pattern.specs.Limits.{most_patterns}
 use Rattle.qs_tree.specs.Lists.{◌∈◌}
 use Rattle.qs_pattern.specs.Rules.{Rule, IsAccepted}
 use Rattle.qs_graph.specs.Graphs.{QGraph, IsValid}
@@ -13,7 +14,7 @@ pub record ClosesSoon (R : List Rule) (G : QGraph) (L : ℕ) (c : ClosureOf) : T
   pub valid : IsValid G
   pub closure : IsClosure R G c
   pub few : length c.stage.done ≤ L
-  pub arcs : length c.stage.graph.arcs ≤ length G.arcs + 16 * L
+  pub arcs : length c.stage.graph.arcs ≤ length G.arcs + most_patterns * L
 
 -- The rules close so, or they need more firings than L.
 abbrev pub ClosesOrNeeds : List Rule → QGraph → ℕ → Option ClosureOf → Type 0

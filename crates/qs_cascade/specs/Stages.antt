@@ -1,5 +1,6 @@
 -- How a grammar ends.
 use Rattle.std.specs.Prelude.{ℕ, ◌≡◌, ◌≤◌, ◌<◌, ◌+◌, ◌*◌, List, [], length}
+use Rattle.qs_pattern.specs.Limits.{most_patterns}
 use Rattle.qs_tree.specs.Lists.{◌∈◌}
 use Rattle.qs_tree.specs.Text.{IsNamed}
 use Rattle.qs_pattern.specs.Rules.{Rule}
@@ -25,9 +26,9 @@ IsStageEnd R G L (end.Left graph firings) = LeavesGraph R G L firings graph × (
 IsStageEnd R G L (end.Empty firings) = (E : QGraph) × LeavesGraph R G L firings E × (E.arcs ≡ [])
 IsStageEnd R G L end.Over = Needs R G L
 
--- A graph that is left has at most 16 arcs and 16 nodes for each of L firings more than G.
+-- A graph that is left has, for each of L firings, at most `most_patterns` arcs and nodes more than G.
 abbrev pub GrowsWithin : QGraph → ℕ → StageEnd → Type 0
-GrowsWithin G L (end.Left graph firings) = (length graph.arcs ≤ length G.arcs + 16 * L) × (graph.nodes ≤ G.nodes + 16 * L)
+GrowsWithin G L (end.Left graph firings) = (length graph.arcs ≤ length G.arcs + most_patterns * L) × (graph.nodes ≤ G.nodes + most_patterns * L)
 GrowsWithin G L (end.Empty firings) = Unit {0}
 GrowsWithin G L end.Over = Unit {0}
 

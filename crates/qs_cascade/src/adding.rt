@@ -1,6 +1,7 @@
 //! What firings add to a graph.
 
 ghost use Rattle.std.specs.Prelude.{◌≡◌, ◌<◌, ◌≤◌, ◌+◌, ◌-◌, ◌*◌, ◌^◌, ℕ, List, length, IfOk, OnOk};
+ghost use Rattle.qs_pattern.specs.Limits.{most_patterns};
 ghost use Rattle.qs_tree.specs.Lists.{◌∈◌};
 ghost use Rattle.qs_graph.specs.Graphs.{Arc, IsNode, IsPath};
 ghost use Rattle.qs_firing.specs.Firings.{Firing as FiringOfRule, Fires};
@@ -37,7 +38,7 @@ fn built_trees(alloc: Global, rules: &[Rule], firing: &Firing) -> Result<Vec<Tre
     requires { (arcs : List Arc) × Fires rules.now arcs firing.now }
     ensures value { IfOk result (λ v. v.items ≡ built rules.now firing.now) }
     ensures some { IfOk result (λ v. 0 < length v.items) }
-    ensures few { IfOk result (λ v. length v.items ≤ 16) }
+    ensures few { IfOk result (λ v. length v.items ≤ most_patterns) }
 {
     let rule = &rules[firing.rule as usize];
     let trees = instance(alloc, rule.right(), &firing.subst)?;
@@ -53,11 +54,11 @@ pub fn add(
     firing: &Firing,
 ) -> Result<(), AllocError>
     requires fires { Fires rules.now arcs.old.arcs firing.now }
-    requires arcs { length arcs.old.arcs + 16 ≤ 2 ^ 32 - 1 }
-    requires nodes { arcs.old.nodes + 16 ≤ 2 ^ 32 - 1 }
+    requires arcs { length arcs.old.arcs + most_patterns ≤ 2 ^ 32 - 1 }
+    requires nodes { arcs.old.nodes + most_patterns ≤ 2 ^ 32 - 1 }
     ensures ok { OnOk result (arcs.new ≡ adds rules.now arcs.old firing.now) }
-    ensures arcs { OnOk result (length arcs.new.arcs ≤ length arcs.old.arcs + 16) }
-    ensures nodes { OnOk result (arcs.new.nodes ≤ arcs.old.nodes + 16) }
+    ensures arcs { OnOk result (length arcs.new.arcs ≤ length arcs.old.arcs + most_patterns) }
+    ensures nodes { OnOk result (arcs.new.nodes ≤ arcs.old.nodes + most_patterns) }
 {
     let from = path_start(arcs, &firing.path);
     let to = path_end(arcs, &firing.path);
@@ -76,11 +77,11 @@ pub fn do_round(
     round: u32,
 ) -> Result<(), AllocError>
     requires fire { (f : FiringOfRule) → f ∈ found.items → Fires rules.now arcs.old.arcs f }
-    requires arcs { length arcs.old.arcs + 16 * length found.items ≤ 2 ^ 32 - 1 }
-    requires nodes { arcs.old.nodes + 16 * length found.items ≤ 2 ^ 32 - 1 }
+    requires arcs { length arcs.old.arcs + most_patterns * length found.items ≤ 2 ^ 32 - 1 }
+    requires nodes { arcs.old.nodes + most_patterns * length found.items ≤ 2 ^ 32 - 1 }
     ensures stage { OnOk result (record { graph = arcs.new; done = done.new.items } ≡ after rules.now round (record { graph = arcs.old; done = done.old.items }) found.items) }
-    ensures arcs { OnOk result (length arcs.new.arcs ≤ length arcs.old.arcs + 16 * length found.items) }
-    ensures nodes { OnOk result (arcs.new.nodes ≤ arcs.old.nodes + 16 * length found.items) }
+    ensures arcs { OnOk result (length arcs.new.arcs ≤ length arcs.old.arcs + most_patterns * length found.items) }
+    ensures nodes { OnOk result (arcs.new.nodes ≤ arcs.old.nodes + most_patterns * length found.items) }
 {
     for firing in found {
         let first = arcs.len();

@@ -1,6 +1,7 @@
 //! The closure of a grammar.
 
 ghost use Rattle.std.specs.Prelude.{◌≡◌, ◌<◌, ◌≤◌, ◌+◌, ◌-◌, ◌*◌, ◌^◌, length, IfOk};
+ghost use Rattle.qs_pattern.specs.Limits.{most_patterns};
 ghost use Rattle.qs_tree.specs.Lists.{◌∈◌};
 ghost use Rattle.qs_pattern.specs.Rules.{Rule as RuleOfPatterns, IsAccepted};
 ghost use Rattle.qs_cascade.specs.Closing.{ClosesOrNeeds};
@@ -33,8 +34,8 @@ pub fn closure(
 ) -> Result<Option<Closure>, AllocError>
     requires limit { 1 ≤ limit }
     requires rules { length rules.now < 4294967295 }
-    requires arcs { length start.now.arcs + 16 * limit ≤ 2 ^ 32 - 1 }
-    requires nodes { start.now.nodes + 16 * limit ≤ 2 ^ 32 - 1 }
+    requires arcs { length start.now.arcs + most_patterns * limit ≤ 2 ^ 32 - 1 }
+    requires nodes { start.now.nodes + most_patterns * limit ≤ 2 ^ 32 - 1 }
     ensures { IfOk result (λ c. ClosesOrNeeds rules.now start.now limit c) }
 {
     know_accepted(rules);

@@ -1,6 +1,7 @@
 //! What a grammar leaves.
 
 ghost use Rattle.std.specs.Prelude.{◌≡◌, ◌<◌, ◌≤◌, ◌+◌, ◌-◌, ◌*◌, ◌^◌, length, IfOk};
+ghost use Rattle.qs_pattern.specs.Limits.{most_patterns};
 ghost use Rattle.qs_cascade.specs.Stages.{IsStageEnd, GrowsWithin, MakesNoLabels};
 
 use crate::closing::closure;
@@ -30,8 +31,8 @@ pub fn stage_alone(
 ) -> Result<StageEnd, AllocError>
     requires limit { 1 ≤ limit }
     requires rules { length rules.now < 4294967295 }
-    requires arcs { length start.now.arcs + 16 * limit ≤ 2 ^ 32 - 1 }
-    requires nodes { start.now.nodes + 16 * limit ≤ 2 ^ 32 - 1 }
+    requires arcs { length start.now.arcs + most_patterns * limit ≤ 2 ^ 32 - 1 }
+    requires nodes { start.now.nodes + most_patterns * limit ≤ 2 ^ 32 - 1 }
     ensures end { IfOk result (λ end. IsStageEnd rules.now start.now limit end) }
     ensures grows { IfOk result (λ end. GrowsWithin start.now limit end) }
     ensures labels { IfOk result (λ end. MakesNoLabels rules.now start.now end) }

@@ -2,7 +2,6 @@
 use Rattle.std.proofs.Common.{◌≡◌, ◌⊎◌, ℕ, false, zero, suc, ◌+◌, ◌-◌, ◌^◌, ◌<◌, ◌≤◌, List, [], ◌∷◌, ◌++◌, length, map, refl, sym, ◌∙◌, ap, subst, inl, inr, ⊎_elim, arith, get_or, Contains, codes, decimal, flat_map, None}
 use Rattle.std.specs.List.{range_with_len}
 use Rattle.std.proofs.lemmas.Fmt.{decimal_injective, decimal_nonempty}
-use Rattle.std.proofs.lemmas.Grind.{flat_map-append}
 use Rattle.std.proofs.lemmas.List.{append_cancel_left, append_assoc, append-nil, length-append}
 use Rattle.std.proofs.lemmas.Nat.{pow_pos}
 use Rattle.std.proofs.lemmas.List.Elements.{Contains-append_cases}
@@ -11,8 +10,6 @@ use Rattle.qs_tree.specs.Lists.{◌∈◌}
 use Rattle.qs_tree.specs.Trees.{Tree}
 use Rattle.qs_tree.specs.Text.{IsNamed}
 use Rattle.qs_tree.proofs.Members.{from_map}
-use Rattle.qs_pattern.specs.declared.variable.Var.{Var}
-use Rattle.qs_pattern.specs.declared.pattern.Head.TheVariants as head
 use Rattle.qs_pattern.specs.Variables.{firsts}
 use Rattle.qs_pattern.specs.Patterns.{Patterns, no_pattern}
 use Rattle.qs_pattern.specs.Rules.{Rule, IsAccepted}
