@@ -82,12 +82,15 @@ fn a_substitution_gives_each_variable_its_value(rt: HostRuntime) {
     assert!(rt; has_values(&subst) && has_values(&subst.copy().expect(&rt, "a copy")));
 }
 
-/// Whether a copy of a rule has one pattern, I*, on its left side, two on its right one, and no condition.
+/// Whether a copy of a rule has one pattern, I*, on its left side, two on its right one, no condition, and the rule's
+/// mark, which no rule that was read has.
 fn is_doubled<R: Abort>(rt: &R, rule: &Rule) -> bool {
     let copy = rule.copy().expect(rt, "a copy");
     matches!(copy.left(), [Pattern::Tree(var)] if *var == I)
         && copy.right().len() == 2
         && copy.cond().is_none()
+        && !rule.unique()
+        && !copy.unique()
 }
 
 /// Whether a copy of a rule has a condition that one list isn't in another.
@@ -97,25 +100,9 @@ fn is_kept<R: Abort>(rt: &R, rule: &Rule) -> bool {
 }
 
 #[test]
-fn a_copy_of_a_rule_has_its_sides_and_its_condition(rt: HostRuntime) {
+fn a_copy_of_a_rule_has_its_sides_its_condition_and_its_mark(rt: HostRuntime) {
     let text = "-SYSTEME- S. I* == I* + I*. I* == I* / I* -HORS- A. -GRAPHE- -1- A -2-. -FIN-";
     let deck = read_deck(rt.alloc(), text.as_bytes()).expect(&rt, "a deck");
     let rules = rules_of(&deck);
     assert!(rt; rules.len() == 2 && is_doubled(&rt, &rules[0]) && is_kept(&rt, &rules[1]));
-}
-
-/// A rule that puts two equal trees in the place of one, with this mark.
-fn doubling<R: Abort>(rt: &R, alloc: Global, unique: bool) -> Rule {
-    let left = vec![in alloc; Pattern::Tree(I)].expect(rt, "a side");
-    let right = vec![in alloc; Pattern::Tree(I), Pattern::Tree(I)].expect(rt, "a side");
-    Rule::new(alloc, left, right, None, unique)
-}
-
-#[test]
-fn a_rule_and_its_copy_have_the_mark_that_was_given(rt: HostRuntime) {
-    for unique in [false, true] {
-        let rule = doubling(&rt, rt.alloc(), unique);
-        let copy = rule.copy().expect(&rt, "a copy");
-        assert!(rt; rule.unique() == unique && copy.unique() == unique);
-    }
 }
