@@ -6,8 +6,9 @@ use Rattle.qs_pattern.specs.Patterns.{AreInClass, cells}
 use Rattle.qs_match.specs.Remaining.{tasks_of}
 use Rattle.qs_match.specs.Bindings.{substitution_of, value_of_ref}
 use Rattle.qs_match.proofs.Variants.{tasks-Nothing, tasks-Then, substitution-More}
-use Rattle.qs_match.proofs.Substitutions.{binds_substitution, substitution_class}
-use Rattle.qs_match.proofs.Sides.{side_node}
+use Rattle.qs_pattern.proofs.SubstitutionLemmas.{substitution_class}
+use Rattle.qs_match.proofs.Substitutions.{binds_substitution}
+use Rattle.qs_pattern.proofs.PatternLemmas.{side_node}
 use Rattle.qs_match.proofs.Calls.{on_ok, tree_appends, tree_none, label_some, label_is, root_none, kids_none, head_appends, end_found, is_none, front_begin, front_short, front_tries, front_more, front_last, front_enough}
 use Rattle.qs_match.proofs.Fronts.{splits_no}
 use Rattle.qs_match.proofs.Splits.{passes_length}
