@@ -2,7 +2,7 @@
 use Rattle.std.proofs.Common.{◌≡◌, ℕ, zero, suc, ◌<◌, ◌≤◌, ◌⊎◌, ◌↔◌, inl, inr, ⊎_elim, List, [], ◌∷◌, ◌++◌, length, take, get_or, refl, sym, ap, ◌∙◌, subst, arith, length-append, append-nil}
 use Rattle.qs_tree.specs.Lists.{◌∈◌, Ascends}
 use Rattle.qs_pattern.specs.Patterns.{count}
-use Rattle.qs_match.proofs.Listed.{in_left, in_right, in_either}
+use Rattle.qs_tree.proofs.Members.{in_append_left, in_append_right, from_append}
 use Rattle.qs_pattern.specs.Rules.{Rule}
 use Rattle.qs_graph.specs.Graphs.{Arc}
 use Rattle.qs_graph.proofs.Numbers.{in_at}
@@ -19,8 +19,8 @@ less_in_front (k ∷ ks) a (suc i) h j (inr m) = less_in_front ks a.1 i (omega a
 -- a path with one more arc is new where the path was or the arc is
 pub new_with : (old : ℕ) (path : List ℕ) (k : ℕ) → (IsNewPath old path ⊎ (old ≤ k)) ↔ IsNewPath old (path ++ k ∷ [])
 new_with old path k = (
-  λ d. ⊎_elim (λ (j, i, h). (j, in_left j path (k ∷ []) i, h)) (λ h. (k, in_right k path (k ∷ []) (inl refl), h)) d,
-  λ (j, i, h). ⊎_elim (λ m. inl (j, m, h)) (λ m. ⊎_elim (λ e. inr (omega arith)) (λ n. absurd n) m) (in_either j path (k ∷ []) i),
+  λ d. ⊎_elim (λ (j, i, h). (j, in_append_left path (k ∷ []) j i, h)) (λ h. (k, in_append_right path (k ∷ []) k (inl refl), h)) d,
+  λ (j, i, h). ⊎_elim (λ m. inl (j, m, h)) (λ m. ⊎_elim (λ e. inr (omega arith)) (λ n. absurd n) m) (from_append path (k ∷ []) j i),
 )
 
 -- ---- the end of a search for the firings of a path

@@ -6,7 +6,7 @@ use Rattle.qs_tree.specs.Lists.{◌∈◌}
 use Rattle.qs_tree.specs.Trees.{Tree}
 use Rattle.qs_pattern.specs.Instances.{IsMatch}
 use Rattle.qs_pattern.specs.Rules.{Rule, AreLeftSidesInClass}
-use Rattle.qs_match.proofs.Listed.{in_left, in_right, in_either}
+use Rattle.qs_tree.proofs.Members.{in_append_left, in_append_right, from_append}
 use Rattle.qs_graph.specs.Graphs.{Arc, QGraph, Leads, arcs_at, trees_on}
 use Rattle.qs_graph.specs.Chains.{chain}
 use Rattle.qs_graph.proofs.Paths.{leads_more}
@@ -147,11 +147,11 @@ module _ {R : List Rule} {G : QGraph} {n old : ℕ} {S : Stage} where
       by (more, e) = record {
         rounds = (S, F, r.rounds, x, refl);
         done_are = λ f i.
-            let y = ⊎_elim (λ d. (r.done_are f d).0) (x.fires f) (in_either f (firings S) F (subst (λ (fs : List Firing). f ∈ fs) (firings_after R (suc n) S F) i)) in
+            let y = ⊎_elim (λ d. (r.done_are f d).0) (x.fires f) (from_append (firings S) F f (subst (λ (fs : List Firing). f ∈ fs) (firings_after R (suc n) S F) i)) in
             (subst (λ (arcs : List Arc). Fires R arcs f) (sym e) (still_fires S.graph.arcs more R f y), never_new R S.graph.arcs f y);
         are_done = λ f y not_new.
             let z = fired_before S.graph.arcs more R f (subst (λ (arcs : List Arc). Fires R arcs f) e y) (below_old (length S.graph.arcs) f.path not_new) in
-            subst (λ (fs : List Firing). f ∈ fs) (sym (firings_after R (suc n) S F)) (⊎_elim (in_left f (firings S) F) (in_right f (firings S) F) (x.all f z));
+            subst (λ (fs : List Firing). f ∈ fs) (sym (firings_after R (suc n) S F)) (⊎_elim (in_append_left (firings S) F f) (in_append_right (firings S) F f) (x.all f z));
       }
 
   pub reaches_next : {F : List Firing} {T : Stage} → Reaches R G n old S → Round R S.graph (firings S) F → T ≡ after R (suc n) S F → Reaches R G (suc n) (length S.graph.arcs) T

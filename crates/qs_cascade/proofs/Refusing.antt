@@ -14,7 +14,7 @@ use Rattle.qs_pattern.proofs.InstanceLemmas.{inst-Node, inst-pattern_before, sin
 use Rattle.qs_pattern.proofs.VariableLemmas.{HasValue}
 use Rattle.qs_pattern.proofs.Reading.{tree_of_var}
 use Rattle.qs_pattern.proofs.MatchLemmas.{matched_value}
-use Rattle.qs_match.proofs.Listed.{in_left, in_right, in_either}
+use Rattle.qs_tree.proofs.Members.{in_append_left, in_append_right, from_append}
 use Rattle.qs_pattern.specs.Rules.{Rule}
 use Rattle.qs_graph.specs.Graphs.{Arc, Leads, arcs_at, trees_on}
 use Rattle.qs_firing.specs.Firings.{Firing}
@@ -49,9 +49,9 @@ module _ (s : Substitution) where
   first_class (Forest v) ps c = ((c.0, tt), c.1)
 
   first_variables : (p : Pattern) (ps : Patterns) (v : Var) → v ∈ variables_in (one_pattern p) → v ∈ variables_in (pattern_before p ps)
-  first_variables (Node' h shape ks) ps v i = elim (in_either v (head_variables h) _ i) [
-    | inl j ↦ in_left v (head_variables h) _ j
-    | inr j ↦ in_right v (head_variables h) _ (elim (in_either v _ [] j) [ inl k ↦ in_left v _ (variables_in ps) k | inr k ↦ absurd k ])
+  first_variables (Node' h shape ks) ps v i = elim (from_append (head_variables h) _ v i) [
+    | inl j ↦ in_append_left (head_variables h) _ v j
+    | inr j ↦ in_append_right (head_variables h) _ v (elim (from_append _ [] v j) [ inl k ↦ in_append_left _ (variables_in ps) v k | inr k ↦ absurd k ])
   ]
   first_variables (Tree w) ps v (inl e) = inl e
   first_variables (Tree w) ps v (inr i) = absurd i
@@ -59,7 +59,7 @@ module _ (s : Substitution) where
   first_variables (Forest w) ps v (inr i) = absurd i
 
   other_variables : (p : Pattern) (ps : Patterns) (v : Var) → v ∈ variables_in ps → v ∈ variables_in (pattern_before p ps)
-  other_variables (Node' h shape ks) ps v i = in_right v (head_variables h) _ (in_right v _ (variables_in ps) i)
+  other_variables (Node' h shape ks) ps v i = in_append_right (head_variables h) _ v (in_append_right _ (variables_in ps) v i)
   other_variables (Tree w) ps v i = inr i
   other_variables (Forest w) ps v i = inr i
 

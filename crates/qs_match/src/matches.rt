@@ -12,6 +12,7 @@ use crate::bindings::Bindings;
 use crate::counts::can_fit;
 use crate::remaining::Remaining;
 use crate::search::search;
+use crate::state::State;
 use qs_pattern::{Pattern, Subst};
 use qs_tree::ForestRef;
 use std::alloc::{AllocError, Global};
@@ -34,13 +35,12 @@ pub fn all_matches(
     if !can_fit(side, trees) {
         return Ok(found);
     }
-    search(
-        alloc,
+    let start = State {
         side,
         trees,
-        &Remaining::Nothing,
-        &Bindings::Nothing,
-        &mut found,
-    )?;
+        remaining: &Remaining::Nothing,
+        bindings: &Bindings::Nothing,
+    };
+    search(alloc, &start, &mut found)?;
     Ok(found)
 }

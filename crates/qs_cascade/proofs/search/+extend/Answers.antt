@@ -14,7 +14,7 @@ use Rattle.qs_cascade.proofs.Findings.{finds_same, finds_none, finds_stop, true_
 use Rattle.qs_cascade.proofs.Following.{left_by, leaving-ascends, goes_on, begins_of, one_more, one_refused, path_and_arc}
 use Rattle.qs_cascade.proofs.Refusing.{refused}
 use Rattle.qs_graph.proofs.Numbers.{in_at}
-use Rattle.qs_firing.proofs.Fired.{count-patterns}
+use Rattle.qs_pattern.proofs.PatternLemmas.{count-patterns}
 use Rattle.qs_cascade.proofs.Extending.{less_in_front, new_with, has_path, begins, never_old}
 use Rattle.qs_cascade.proofs.search.+extend.Goals as goal
 

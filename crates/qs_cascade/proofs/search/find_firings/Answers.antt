@@ -7,7 +7,7 @@ use Rattle.qs_cascade.specs.Finding.{Finds, GoesOn, Begins, numbers}
 use Rattle.qs_cascade.proofs.Findings.{finds_same, finds_stop}
 use Rattle.qs_cascade.proofs.Following.{begins_of, one_more, one_refused, path_and_arc}
 use Rattle.qs_cascade.proofs.Refusing.{refused}
-use Rattle.qs_firing.proofs.Fired.{count-patterns}
+use Rattle.qs_pattern.proofs.PatternLemmas.{count-patterns}
 use Rattle.qs_cascade.proofs.Starting.{numbers-more, numbers-below, goes_on_start}
 use Rattle.qs_cascade.proofs.search.find_firings.Goals as goal
 
