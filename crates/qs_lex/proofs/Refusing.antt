@@ -20,7 +20,7 @@ pub refused : {F : List ℕ → ℕ → Cause → Type 0} {text : List ℕ} {byt
 refused {F} {text} {byte} {cause} {r} fault tells = record { byte = byte; cause = cause; fault = fault; tells = tells }
 
 -- each fault is told by one
-pub some_refusal : {F : List ℕ → ℕ → Cause → Type 0} {text : List ℕ} {byte : ℕ} {cause : Cause} → F text byte cause → (r : Refusal) × IsRefusedFor F text r
-some_refusal {F} {text} {byte} {cause} fault =
+pub some_refusal : (F : List ℕ → ℕ → Cause → Type 0) (text : List ℕ) (byte : ℕ) (cause : Cause) → F text byte cause → (r : Refusal) × IsRefusedFor F text r
+some_refusal F text byte cause fault =
     let r : Refusal = record { line = line_of text byte; column = column_of text byte; cause = cause } in
     (r, refused fault (record { line = refl; column = refl; cause_is = refl }))
