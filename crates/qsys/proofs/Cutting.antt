@@ -3,7 +3,7 @@ use Rattle.std.proofs.Common.{ℕ, List, ◌++◌, length, Option, Some, None}
 use Rattle.qs_tree.specs.Lists.{◌∈◌}
 use Rattle.qs_tree.proofs.Members.{in_append_right}
 use Rattle.qs_pattern.specs.Conditions.{Condition}
-use Rattle.qs_pattern.specs.Rules.{Rule, IsInClassIfGiven, HasEnoughMembersIfGiven, IsAccepted}
+use Rattle.qs_pattern.specs.Rules.{Rule, IsInClassIfGiven, HasEnoughMembersIfGiven, unmarked, IsAccepted}
 use Rattle.qs_pattern.specs.Named.{IsNamedIfGiven}
 use Rattle.qs_ruletext.specs.Rules.{IsWellRead, IsWellReadIfGiven}
 use Rattle.qs_graph.specs.Graphs.{QGraph}
@@ -22,7 +22,7 @@ given_read n None in_class enough named full = tt
 given_read n (Some c) in_class enough named full = record { in_class = in_class; enough = enough; lists = full; named = named }
 
 -- and so is a rule
-rule_read : (n : ℕ) (rule : Rule) → IsAccepted rule → IsRuleNamed n rule → HasFullListsIfGiven rule.condition → IsWellRead n rule
+rule_read : (n : ℕ) (rule : Rule) → IsAccepted rule → IsRuleNamed n rule → HasFullListsIfGiven rule.condition → IsWellRead n (unmarked rule)
 rule_read n rule ok named full = record {
   left = record { some = ok.left.some; no_forest_at_top = ok.left.no_forest_at_top; in_class = ok.left.in_class; named = named.left };
   right = record { some = ok.right.some; no_forest_at_top = ok.right.no_forest_at_top; in_class = ok.right.in_class; named = named.right };
@@ -38,6 +38,7 @@ back_writable {front = front} {back = back} can full grammar i =
     record {
       name = named.0;
       rules = λ rule k. rule_read _ rule (can.accepted grammar j rule k) (named.1 rule k) (full grammar i rule k);
+      without_mark = can.without_marks grammar i;
     }
 
 -- a condition that was read has named labels
@@ -60,6 +61,7 @@ cut_deck {names = names} {front = front} {back = back} deck =
             let read = (each grammar i).rules rule j in
             record { left = read.left.named; right = read.right.named; condition = given_named (length names) rule.condition read.condition },
       );
+      without_marks = λ grammar i. (each grammar (in_append_right front back grammar i)).without_mark;
       valid = can.2;
       arcs_named = can.4;
     }

@@ -14,10 +14,10 @@ use Rattle.qs_tree.specs.Trees.{Forest, Tree}
 use Rattle.qs_pattern.specs.declared.pattern.Head.{Head}
 use Rattle.qs_pattern.specs.declared.pattern.Head.TheVariants as head
 use Rattle.qs_pattern.specs.Patterns.{Patterns}
-use Rattle.qs_pattern.specs.Conditions.{Condition, Conditions}
-use Rattle.qs_pattern.specs.Rules.{Rule}
+use Rattle.qs_pattern.specs.Conditions.{Comparing, within, outside, Condition, Conditions}
+use Rattle.qs_pattern.specs.Rules.{UnmarkedRule}
 use Rattle.qs_ruletext.specs.WrittenRules.{WrittenRule}
-use Rattle.qs_ruletext.specs.Reading.{IsLabelOf, IsHeadOf, ReadsTree, reads_node, reads_tree_variable, ReadsSubtrees, no_parentheses, nothing_inside, list_inside, ReadsList, reads_list, ReadsMoreItems, no_more_items, one_more_item, ReadsItem, reads_tree, reads_forest_variable, ReadsMoreTrees, no_more_trees, one_more_tree, ReadsSide, reads_side, ReadsCond, reads_cond, ReadsMoreConjs, no_more_conjs, one_more_conj, ReadsConj, reads_conj, ReadsMoreNegs, no_more_negs, one_more_neg, ReadsNeg, not_negated, reads_negated, ReadsPrim, reads_group, reads_within, reads_outside}
+use Rattle.qs_ruletext.specs.Reading.{IsLabelOf, IsHeadOf, ReadsTree, reads_node, reads_tree_variable, ReadsSubtrees, no_parentheses, nothing_inside, list_inside, ReadsList, reads_list, ReadsMoreItems, no_more_items, one_more_item, ReadsItem, reads_tree, reads_forest_variable, ReadsMoreTrees, no_more_trees, one_more_tree, ReadsSide, reads_side, ReadsCond, reads_cond, ReadsMoreConjs, no_more_conjs, one_more_conj, ReadsConj, reads_conj, ReadsMoreNegs, no_more_negs, one_more_neg, ReadsNeg, not_negated, reads_negated, ReadsPrim, reads_group, reads_compared, comparing_word}
 use Rattle.qs_ruletext.specs.Rules.{ReadsCondIfGiven, no_cond, some_cond, ReadsRule, reads_rule, ReadsRules}
 use Rattle.qs_graphtext.specs.WrittenChains.{WrittenChain}
 use Rattle.qs_graphtext.specs.Reading as graphs
@@ -123,6 +123,11 @@ close {t} {ts} of next = record {
   chain = λ before also. one_token t ts closing before of (cond-false (compares before) false true also) (next.chain closing refl);
 }
 
+-- each word between two lists compares them
+comparing_compares : (word : Comparing) → compares (the_word (comparing_word word)) ≡ true
+comparing_compares within = refl
+comparing_compares outside = refl
+
 -- behind the end of a list: a word that compares
 comparison : {t : Token} {ts : List Token} (s : Sort) → compares s ≡ true → IsOf s t → BehindAny ts → BehindEnd (t ∷ ts)
 comparison {t} {ts} s is of next = record {
@@ -207,14 +212,13 @@ module _ {names : List (List ℕ)} {text : List ℕ} where
 
     prim_chain : {ts rest : List Token} {c : Condition} → ReadsPrim names text ts c rest → BehindEnd rest → BehindPlain ts
     prim_chain (reads_group e inside f) next = sign opening refl e (cond_chain inside (ends_plain (close f next)))
-    prim_chain (reads_within a e b) next = any_plain (list_chain a (comparison (the_word Dans) refl e (list_chain b next)))
-    prim_chain (reads_outside a e b) next = any_plain (list_chain a (comparison (the_word Hors) refl e (list_chain b next)))
+    prim_chain (reads_compared {word} a e b) next = any_plain (list_chain a (comparison (the_word (comparing_word word)) (comparing_compares word) e (list_chain b next)))
 
   given_chain : {ts rest : List Token} {c : Option Condition} → ReadsCondIfGiven names text ts c rest → BehindEnd rest → BehindEnd ts
   given_chain no_cond next = next
   given_chain (some_cond e c) next = ends_plain (sign slash refl e (cond_chain c next))
 
-  rule_chain : {ts rest : List Token} {r : Rule} → ReadsRule names text ts r rest → BehindPlain rest → BehindAny ts
+  rule_chain : {ts rest : List Token} {r : UnmarkedRule} → ReadsRule names text ts r rest → BehindPlain rest → BehindAny ts
   rule_chain (reads_rule left e right given f) next =
       side_chain left (ends_plain (sign equals refl e (any_plain (side_chain right (given_chain given (ends_plain (sign stop refl f next)))))))
 

@@ -11,7 +11,7 @@ use Rattle.qs_lex.specs.declared.token.Word.TheVariants.{Systeme, Graphe}
 use Rattle.qs_tree.specs.Lists.{◌∈◌}
 use Rattle.qs_tree.specs.Trees.{Forest, no_tree, first_tree, Tree}
 use Rattle.qs_tree.specs.Text.{name_of, label_text, in_parentheses, behind_comma, forest_text, tree_text}
-use Rattle.qs_pattern.specs.Rules.{Rule, IsAccepted}
+use Rattle.qs_pattern.specs.Rules.{Rule, unmarked, IsAccepted}
 use Rattle.qs_ruletext.specs.Written.{written}
 use Rattle.qs_ruletext.proofs.ReadBack.{place, space, end_of_line, token}
 use Rattle.qs_ruletext.proofs.HeadsReadBack.{Closes}
@@ -59,8 +59,8 @@ module _ (text : List ℕ) where
         let ok = accepted r (inl refl) in
         let texts : List ℕ = flat_map (rule_line names) rules in
         let rest : List ℕ = texts ++ left in
-        let x = rule_passed text names others keeps r ok.left.in_class ok.right.in_class ok.condition before (codes "\n" ++ rest)
-        (subst (IsAt text before) (append_assoc (rule_line names r) texts left ∙ append_assoc (written names r) (codes "\n") rest) at) in
+        let x = rule_passed text names others keeps (unmarked r) ok.left.in_class ok.right.in_class ok.condition before (codes "\n" ++ rest)
+        (subst (IsAt text before) (append_assoc (rule_line names r) texts left ∙ append_assoc (written names (unmarked r)) (codes "\n") rest) at) in
         let y = rules_passed rules (λ rule i. accepted rule (inr i)) stop left (end_passed stop rest x.2) in (
           λ rule i. ⊎_elim (λ e. subst (λ (s : Rule). HasFullListsIfGiven s.condition) (sym e) x.0) (y.0 rule) i,
           (λ i. line (x.1 i) ++ y.1 i),

@@ -14,8 +14,8 @@ use Rattle.qs_pattern.specs.declared.pattern.Head.{Head}
 use Rattle.qs_pattern.specs.declared.pattern.Head.TheVariants as head
 use Rattle.qs_pattern.specs.Variables.{IsTreeVar, IsForestVar}
 use Rattle.qs_pattern.specs.Patterns.{Patterns, no_pattern, node_first, tree_var_first, forest_var_first, count, IsHeadInClass, AreInClass}
-use Rattle.qs_pattern.specs.Conditions.{Condition, Conditions, within, outside, negated, all, any, no_condition, condition_first, IsConditionInClass, AreConditionsInClass}
-use Rattle.qs_pattern.specs.Rules.{Rule, IsInClassIfGiven}
+use Rattle.qs_pattern.specs.Conditions.{Comparing, within, outside, all, any, Condition, Conditions, compared, negated, combined, no_condition, condition_first, EachListOfAll, IsConditionInClass}
+use Rattle.qs_pattern.specs.Rules.{UnmarkedRule, IsInClassIfGiven}
 use Rattle.qs_ruletext.specs.Reading.{IsVariableOf}
 use Rattle.qs_ruletext.specs.Texts.{joined, in_parentheses, variable_text, head_text, kids_text, pattern_texts, list_text, side_text, tightness, member_text, condition_text, member_texts, condition_part}
 use Rattle.qs_ruletext.specs.Written.{HasFullLists, HaveFullLists, written}
@@ -213,12 +213,12 @@ module _ (text : List ℕ) where
         some_behind (tree_var_first v ps) left refuses at = omega arith
         some_behind (forest_var_first v ps) left refuses at = omega arith
 
-    within_shows : (a b : Patterns) → IsConditionInClass (within a b) → ConditionShows (within a b)
-    within_shows a b class = both_full (the_word Dans) (codes " -DANS- ") a b class.0 class.1 refl (λ left. refl)
+    compared_shows : (word : Comparing) (a b : Patterns) → IsConditionInClass (compared word a b) → ConditionShows (compared word a b)
+    compared_shows within a b class =
+        both_full (the_word Dans) (codes " -DANS- ") a b class.0 class.1 refl (λ left. refl)
         (λ before left at. pass_kind text (a_word Dans) (codes "-DANS-") before (codes " -DANS- ") left (spaced text (a_word Dans) (codes "-DANS-") left refl tt refl) at)
-
-    outside_shows : (a b : Patterns) → IsConditionInClass (outside a b) → ConditionShows (outside a b)
-    outside_shows a b class = both_full (the_word Hors) (codes " -HORS- ") a b class.0 class.1 refl (λ left. refl)
+    compared_shows outside a b class =
+        both_full (the_word Hors) (codes " -HORS- ") a b class.0 class.1 refl (λ left. refl)
         (λ before left at. pass_kind text (a_word Hors) (codes "-HORS-") before (codes " -HORS- ") left (spaced text (a_word Hors) (codes "-HORS-") left refl tt refl) at)
 
     negated_shows : (c : Condition) → ConditionShows c → ConditionShows (negated c)
@@ -307,15 +307,13 @@ module _ (text : List ℕ) where
 
     mutual
       condition_shows : (c : Condition) → IsConditionInClass c → ConditionShows c
-      condition_shows (within a b) class = within_shows a b class
-      condition_shows (outside a b) class = outside_shows a b class
+      condition_shows (compared word a b) class = compared_shows word a b class
       condition_shows (negated c) class = negated_shows c (condition_shows c class)
-      condition_shows (all no_condition) class = λ before left no_end closes refuses at. (tt, refl, (before, at))
-      condition_shows (all (condition_first c cs)) class = members_show 2 (codes " -ET- ") (the_word Et) et c cs (condition_shows c class.0) (more_show 2 (codes " -ET- ") (the_word Et) et cs class.1)
-      condition_shows (any no_condition) class = λ before left no_end closes refuses at. (tt, refl, (before, at))
-      condition_shows (any (condition_first c cs)) class = members_show 1 (codes " -OU- ") (the_word Ou) ou c cs (condition_shows c class.0) (more_show 1 (codes " -OU- ") (the_word Ou) ou cs class.1)
+      condition_shows (combined word no_condition) class = λ before left no_end closes refuses at. (tt, refl, (before, at))
+      condition_shows (combined all (condition_first c cs)) class = members_show 2 (codes " -ET- ") (the_word Et) et c cs (condition_shows c class.0) (more_show 2 (codes " -ET- ") (the_word Et) et cs class.1)
+      condition_shows (combined any (condition_first c cs)) class = members_show 1 (codes " -OU- ") (the_word Ou) ou c cs (condition_shows c class.0) (more_show 1 (codes " -OU- ") (the_word Ou) ou cs class.1)
 
-      more_show : (outer : ℕ) (word : List ℕ) (s : Sort) (is : IsJoint outer word s) (cs : Conditions) → AreConditionsInClass cs → MoreShow outer word s is cs
+      more_show : (outer : ℕ) (word : List ℕ) (s : Sort) (is : IsJoint outer word s) (cs : Conditions) → EachListOfAll AreInClass cs → MoreShow outer word s is cs
       more_show outer word s is no_condition class = λ before left closes refuses at. (tt, refl, (before, at))
       more_show outer word s is (condition_first c cs) class = more_shows outer word s is c cs (condition_shows c class.0) (more_show outer word s is cs class.1)
 
@@ -336,7 +334,7 @@ module _ (text : List ℕ) where
     part_closes (Some c) left closes = refl
 
     -- a rule is written alike, and its condition compares no empty list; behind it, all is at a stop
-    pub rule_passed : (r : Rule) → AreInClass r.left → AreInClass r.right → IsInClassIfGiven r.condition → (before : Sort) (left : List ℕ)
+    pub rule_passed : (r : UnmarkedRule) → AreInClass r.left → AreInClass r.right → IsInClassIfGiven r.condition → (before : Sort) (left : List ℕ)
         → IsAt text before (written names r ++ left)
         → HasFullListsIfGiven r.condition × (written names r ≡ written others r) × IsAt text stop left
     rule_passed r left_class right_class class before left at =

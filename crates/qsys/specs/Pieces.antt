@@ -1,6 +1,6 @@
 -- A cascade in two pieces: when its first grammars leave a graph, with which a cascade of the others can go on. This
 -- project's own.
-use Rattle.std.specs.Prelude.{◌≡◌, ◌<◌, ℕ, List, [], ◌∷◌, ◌++◌, length, map, Option, Some, None}
+use Rattle.std.specs.Prelude.{◌≡◌, ◌<◌, ℕ, false, List, [], ◌∷◌, ◌++◌, length, map, Option, Some, None}
 use Rattle.qs_tree.specs.Lists.{◌∈◌}
 use Rattle.qs_tree.specs.Names.{AreDistinct}
 use Rattle.qs_pattern.specs.Rules.{Rule}
@@ -35,12 +35,19 @@ AreGrammarsNamed n grammars =
     (grammar : Grammar) → grammar ∈ grammars
     → (grammar.name.0 < n) × ((rule : Rule) → rule ∈ grammar.rules → IsRuleNamed n rule)
 
+-- No rule in these grammars is marked. No text tells a mark.
+abbrev pub AreWithoutMarks : List Grammar → Type 0
+AreWithoutMarks grammars =
+    (grammar : Grammar) → grammar ∈ grammars → (rule : Rule) → rule ∈ grammar.rules → rule.unique ≡ false
+
 -- What is asked of a cascade that is run in two pieces, `front` and then `back`, with these names for labels: that the
--- rules are accepted, the graph is valid, and each label has a name, and that no two names are equal.
+-- rules are accepted and those of `back` without a mark, the graph is valid, and each label has a name, and that no two
+-- names are equal.
 pub record CanBeCut (names : List (List ℕ)) (graph : QGraph) (front back : List Grammar) : Type 0 where
   pub names_differ : AreDistinct names
   pub accepted : AreAccepted (front ++ back)
   pub named : AreGrammarsNamed (length names) (front ++ back)
+  pub without_marks : AreWithoutMarks back
   pub valid : IsValid graph
   pub arcs_named : AreArcsNamed (length names) graph.arcs
 
