@@ -1,2 +1,5 @@
 pub mod Naming
 pub mod Tokens
+pub mod Taking
+pub mod Steps
+pub mod Lists

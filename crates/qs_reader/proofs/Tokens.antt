@@ -4,7 +4,11 @@ use Rattle.std.specs.List.{All}
 use Rattle.std.proofs.Math.Seq.{drop-cons}
 use Rattle.std.proofs.lemmas.List.Elements.{All-get_or}
 use Rattle.qs_lex.specs.declared.token.Token.{Token}
-use Rattle.qs_lex.specs.Tokens.{IsTokenOf}
+use Rattle.qs_lex.specs.declared.token.Kind.{Kind}
+use Rattle.qs_lex.specs.declared.token.Kind.TheVariants.{Bare, Quoted, Variable, Node, Word as a_word, Opening, Closing, Comma, Plus, Slash, Equals, Stop}
+use Rattle.qs_lex.specs.Spelling.{IsLabelText}
+use Rattle.qs_lex.specs.Tokens.{IsTokenOf, bytes_of, HasLabelText}
+use Rattle.qs_lex.specs.Grammar.{a_label, sort_of, IsOf}
 use Rattle.qs_reader.specs.Readers.{Reading, IsNext, IsPassed}
 
 next_at : (tokens : List Token) (place : ℕ) (t : Token) → place < length tokens → t ≡ get_or tokens place t → drop place tokens ≡ t ∷ drop (place + 1) tokens
@@ -35,3 +39,21 @@ passed r s t n e =
       are = tail_is r.tokens n.behind r.place t n.are n.some;
       goes_on = record { text = refl; tokens = refl; forward = omega arith; within = omega (arith, n.some) };
     })
+
+-- a label is of the sort of labels
+pub label_sort : (text : List ℕ) (t : Token) (spelling : List ℕ) → HasLabelText text t spelling → IsOf a_label t
+label_sort text t spelling h = by_kind t.kind (bytes_of text t) h
+  where
+    by_kind : (kind : Kind) (bytes : List ℕ) → IsLabelText kind bytes spelling → sort_of kind ≡ a_label
+    by_kind Bare bytes g = refl
+    by_kind Quoted bytes g = refl
+    by_kind (Variable letter number) bytes g = absurd g
+    by_kind (Node number) bytes g = absurd g
+    by_kind (a_word w) bytes g = absurd g
+    by_kind Opening bytes g = absurd g
+    by_kind Closing bytes g = absurd g
+    by_kind Comma bytes g = absurd g
+    by_kind Plus bytes g = absurd g
+    by_kind Slash bytes g = absurd g
+    by_kind Equals bytes g = absurd g
+    by_kind Stop bytes g = absurd g

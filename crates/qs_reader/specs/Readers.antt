@@ -57,6 +57,7 @@ pub record Passes (sort : Sort) (r s : Reading) : Type 0 where
 -- the next token is none of this sort, and the reader stays where it is
 pub record Stays (sort : Sort) (r s : Reading) : Type 0 where
   pub same : s ≡ r
+  pub within : r.place ≤ length r.tokens
   pub none : NextIsNo (same_sort sort) (rest_of r)
 
 -- the label that the next token is was passed and named
@@ -65,12 +66,16 @@ pub record NamesLabel (label : Label) (r s : Reading) (old new : List (List ℕ)
   pub passed : IsPassed token r s
   pub is_label : (later : List (List ℕ)) → KeepsNames new later → IsLabelOf later r.text token label
   pub adds : AddsNameOf r.text token old new
+  pub keeps : KeepsNames old new
   pub few : length new ≤ length old + 1
 
--- a token of this sort should stand next, and doesn't
-abbrev pub EndsHere : Sort → Reading → TextEnd → Type 0
-EndsHere sort r (Syntax at) = (at ≡ r.place) × (r.place ≤ length r.tokens) × NextIsNo (same_sort sort) (rest_of r)
-EndsHere sort r Memory = Unit {0}
+-- a token of this sort should stand next, and doesn't, or memory was wanting
+abbrev pub IsNoneHere : Sort → Reading → TextEnd → Type 0
+IsNoneHere sort r (Syntax at) = (at ≡ r.place) × (r.place ≤ length r.tokens) × NextIsNo (same_sort sort) (rest_of r)
+IsNoneHere sort r Memory = Unit {0}
+
+pub record EndsHere (sort : Sort) (r : Reading) (end : TextEnd) : Type 0 where
+  pub none : IsNoneHere sort r end
 
 -- The tokens before the rest are the form, whole, and nothing that may be left out or repeated was left out where the next token
 -- begins it. A table says with which sorts a part may begin.
@@ -92,10 +97,10 @@ pub data StopsIn {Part : Type 0} (line : Grammar Part) (table : Part → Sort �
   -- whatever is expected behind the form
   stops_known : {form : Form Part} {ts rest : List Token} → ((behind : List (Form Part)) → Stops line (form ∷ behind) ts (length rest)) → StopsIn line table form ts rest
   -- the next token can't begin what has to come
-  stops_here : {form : Form Part} {ts : List Token} → nullable form ≡ false → NextIsNo (first table form) ts → StopsIn line table form ts ts
+  none_fits : {form : Form Part} {ts : List Token} → nullable form ≡ false → NextIsNo (first table form) ts → StopsIn line table form ts ts
   stops_in_part : {name : Part} {ts rest : List Token} → StopsIn line table (line name) ts rest → StopsIn line table (part name) ts rest
   stops_in_first : {first behind : Form Part} {ts rest : List Token} → StopsIn line table first ts rest → StopsIn line table (first · behind) ts rest
-  stops_behind : {first behind : Form Part} {ts middle rest : List Token}
+  stops_in_behind : {first behind : Form Part} {ts middle rest : List Token}
       → IsTaken line table first ts middle → StopsIn line table behind middle rest → StopsIn line table (first · behind) ts rest
   stops_in_this : {this other : Form Part} {ts rest : List Token}
       → NextIsNo (first table other) ts → StopsIn line table this ts rest → StopsIn line table (this ∣ other) ts rest
@@ -132,10 +137,13 @@ pub record StopsAt {Part : Type 0} (line : Grammar Part) (table : Part → Sort 
   pub within : at ≤ length r.tokens
   pub stops : StopsIn line table form (rest_of r) (drop at r.tokens)
 
--- why a reader didn't go on; memory may be wanting at any time
-abbrev pub Ends : {Part : Type 0} → Grammar Part → (Part → Sort → Bool) → Form Part → Reading → TextEnd → Type 0
-Ends line table form r (Syntax at) = StopsAt line table form r at
-Ends line table form r Memory = Unit {0}
+-- why a reader that expects the form didn't go on: it stops, or memory was wanting, which may be at any time
+abbrev pub StopsOr : {Part : Type 0} → Grammar Part → (Part → Sort → Bool) → Form Part → Reading → TextEnd → Type 0
+StopsOr line table form r (Syntax at) = StopsAt line table form r at
+StopsOr line table form r Memory = Unit {0}
+
+pub record Ends {Part : Type 0} (line : Grammar Part) (table : Part → Sort → Bool) (form : Form Part) (r : Reading) (end : TextEnd) : Type 0 where
+  pub stops : StopsOr line table form r end
 
 -- What may still be repeated stands behind what was read. Whatever is read there, `R` says what that makes of it.
 pub record IsReadSoFar {Part : Type 0} (line : Grammar Part) (table : Part → Sort → Bool) (form member : Form Part) (R : Reads) (r s : Reading) (old new : List (List ℕ)) : Type 0 where

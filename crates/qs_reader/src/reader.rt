@@ -76,6 +76,7 @@ impl<'a> Reader<'a> {
     pub fn peek(&self) -> Option<Token>
         ensures some { IfSome result (λ token. IsNext token self.now) }
         ensures none { IfNone result (rest_of self.now ≡ []) }
+        ensures within { self.now.place ≤ length self.now.tokens }
     {
         let next = self.tokens.get(self.place)?;
         Some(*next)
