@@ -4,7 +4,7 @@ use Rattle.std.proofs.Common.{◌≡◌, ℕ, ◌+◌, ◌≤◌, Bool, true, fa
 use Rattle.std.specs.Prelude.{IfErr, IsErrAnd}
 use Rattle.std.proofs.lemmas.Result.{err_from_is_err_and}
 use Rattle.qs_lex.specs.declared.token.Token.{Token}
-use Rattle.qs_lex.specs.Grammar.{Sort, a_label as the_label, sort_of, Form, one, part, ◌·◌, ◌∣◌, optional, repeated, Grammar}
+use Rattle.qs_lex.specs.Grammar.{Sort, a_label as the_label, sort_of, IsOf, Form, one, part, ◌·◌, ◌∣◌, optional, repeated, Grammar}
 use Rattle.qs_lex.specs.Expecting.{same_sort, nullable, first, NextIsNo}
 use Rattle.qs_lex.proofs.Expected.{same_itself}
 use Rattle.qs_tree.specs.declared.cell.Label.{Label}
@@ -36,18 +36,22 @@ none_here line table f sort r (Syntax at) some none e =
 none_here line table f sort r Memory some none e = tt
 
 module _ {Part : Type 0} {line : Grammar Part} {table : Part → Sort → Bool} where
-  pub token_read : {sort : Sort} {r s : Reading} (names : List (List ℕ)) → same_sort the_label sort ≡ false → Passes sort r s → IsRead line table (one sort) (AToken sort) r s names names
-  token_read {sort} {r} {s} names differs p =
-      let longer = passed_length p.passed in
+  pub passed_read : {sort : Sort} {t : Token} {R : Reads} {r s : Reading} (names : List (List ℕ)) → same_sort the_label sort ≡ false → IsOf sort t
+      → ((later : List (List ℕ)) → R later r.text (t ∷ rest_of s) (rest_of s)) → IsPassed t r s → IsRead line table (one sort) R r s names names
+  passed_read {sort} {t} {R} {r} {s} names differs of reads p =
+      let longer = passed_length p in
       record {
-        reads = λ later k. subst (λ us. AToken sort later r.text us (rest_of s)) (sym p.passed.are) (a_token p.of_sort);
-        takes = subst (λ us. IsTaken line table (one sort) us (rest_of s)) (sym p.passed.are) (takes_token p.of_sort);
-        names = no_label sort r.text (rest_of r) (rest_of s) p.token names differs p.of_sort p.passed.are;
+        reads = λ later k. subst (λ us. R later r.text us (rest_of s)) (sym p.are) (reads later);
+        takes = subst (λ us. IsTaken line table (one sort) us (rest_of s)) (sym p.are) (takes_token of);
+        names = no_label sort r.text (rest_of r) (rest_of s) t names differs of p.are;
         keeps = λ k t i. i;
-        goes_on = p.passed.goes_on;
+        goes_on = p.goes_on;
         room = omega (arith, longer);
         shorter = omega (arith, longer);
       }
+
+  pub token_read : {sort : Sort} {r s : Reading} (names : List (List ℕ)) → same_sort the_label sort ≡ false → Passes sort r s → IsRead line table (one sort) (AToken sort) r s names names
+  token_read names differs p = passed_read names differs p.of_sort (λ later. a_token p.of_sort) p.passed
 
   pub label_read : {label : Label} {r s : Reading} {old new : List (List ℕ)} → NamesLabel label r s old new → IsRead line table (one the_label) (ALabel label) r s old new
   label_read {label} {r} {s} {old} {new} n =
@@ -79,6 +83,12 @@ module _ {Part : Type 0} {line : Grammar Part} {table : Part → Sort → Bool} 
   pub left_out_read : {f : Form Part} {sort : Sort} {r s : Reading} (names : List (List ℕ)) → NextIsNo (first table f) (rest_of r) → Stays sort r s → IsRead line table (optional f) Nothing r s names names
   left_out_read {f} {r} names none st = subst (λ s. IsRead line table (optional f) Nothing r s names names) (sym st.same) (nowhere names none st.within)
 
+  -- the next token is none with which it may begin
+  pub absent_read : {f : Form Part} {sort : Sort} {r s : Reading} (names : List (List ℕ)) → first table f sort ≡ false → Passes sort r s → IsRead line table (optional f) Nothing r r names names
+  absent_read {f} {r} names none p =
+      let on = p.passed.goes_on in
+      nowhere names (subst (λ ts. NextIsNo (first table f) ts) (sym p.passed.are) (ap (first table f) p.of_sort ∙ none)) (omega (arith, on.forward, on.within, ap length on.tokens))
+
   -- one thing, and then another
   pub then_read : {f g : Form Part} {R S : Reads} {r s u : Reading} {old middle new : List (List ℕ)}
       → IsRead line table f R r s old middle → IsRead line table g S s u middle new → IsRead line table (f · g) (Then R S) r u old new
@@ -109,9 +119,12 @@ module _ {Part : Type 0} {line : Grammar Part} {table : Part → Sort → Bool} 
         shorter = a.shorter;
       }
 
-  pub part_read : {p : Part} {R S : Reads} {r s : Reading} {old new : List (List ℕ)} → ((names : List (List ℕ)) (text : List ℕ) (ts rest : List Token) → R names text ts rest → S names text ts rest)
-      → IsRead line table (line p) R r s old new → IsRead line table (part p) S r s old new
-  part_read reads a = read_as (λ ts rest w. takes_part w) reads a
+  pub read_so : {f : Form Part} {R S : Reads} {r s : Reading} {old new : List (List ℕ)} → ((names : List (List ℕ)) (text : List ℕ) (ts rest : List Token) → R names text ts rest → S names text ts rest)
+      → IsRead line table f R r s old new → IsRead line table f S r s old new
+  read_so reads a = read_as (λ ts rest w. w) reads a
+
+  pub part_read : {p : Part} {R : Reads} {r s : Reading} {old new : List (List ℕ)} → IsRead line table (line p) R r s old new → IsRead line table (part p) R r s old new
+  part_read a = read_as (λ ts rest w. takes_part w) (λ names text ts rest x. x) a
 
   pub this_read : {f g : Form Part} {R : Reads} {r s : Reading} {old new : List (List ℕ)} → IsRead line table f R r s old new → IsRead line table (f ∣ g) R r s old new
   this_read a = read_as (λ ts rest w. takes_this w) (λ names text ts rest x. x) a
@@ -127,6 +140,9 @@ module _ {Part : Type 0} {line : Grammar Part} {table : Part → Sort → Bool} 
   stayed_read {f} {R} {u} {old} {new} st a = subst (λ r. IsRead line table f R r u old new) st.same a
 
   -- where it stops
+  pub stayed_here : {k sort : Sort} {r s : Reading} {end : TextEnd} → Stays sort r s → EndsHere k s end → EndsHere k r end
+  stayed_here {k} {end} st e = subst (λ r. EndsHere k r end) st.same e
+
   pub stayed_ends : {f : Form Part} {sort : Sort} {r s : Reading} {end : TextEnd} → Stays sort r s → Ends line table f s end → Ends line table f r end
   stayed_ends {f} {end} st e = subst (λ r. Ends line table f r end) st.same e
 

@@ -16,10 +16,11 @@ ghost use Rattle.qs_ruletext.specs.Cursors.{Readable, IsRead, Ends, BeginsTree};
 
 use crate::conditions::condition;
 use crate::cursor::{Halt, begins_tree, behind, expect};
-use crate::raw::{RawRule, TextEnd};
+use crate::raw::RawRule;
 use crate::sides::side;
 use qs_lex::{Kind, Token};
 use qs_pattern::Cond;
+use qs_reader::TextEnd;
 use qs_tree::Names;
 use std::alloc::{AllocError, Global};
 

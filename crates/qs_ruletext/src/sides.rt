@@ -1,38 +1,19 @@
 //! Trees, lists of trees and sides of rules, read from tokens.
 
 ghost use Rattle.std.specs.Prelude.{◌≡◌, ℕ, ◌^◌, ◌+◌, ◌<◌, ◌≤◌, IfOk, IfErr, [], ◌∷◌, length};
-ghost use Rattle.qs_lex.specs.Tokens.{IsTokenOf, IsLabel};
 ghost use Rattle.qs_lex.specs.Grammar.{opening, closing, comma, plus, one, part, ◌·◌, optional};
 ghost use Rattle.qs_pattern.specs.Patterns.{one_pattern, patterns};
 ghost use Rattle.qs_ruletext.specs.Grammar.{tree, list, item, side};
-ghost use Rattle.qs_ruletext.specs.Reading.{IsLabelOf, ReadsTree, ReadsSubtrees, ReadsList, ReadsItem, ReadsSide};
+ghost use Rattle.qs_ruletext.specs.Reading.{ReadsTree, ReadsSubtrees, ReadsList, ReadsItem, ReadsSide};
 ghost use Rattle.qs_ruletext.specs.Rules.{KeepsNames};
-ghost use Rattle.qs_ruletext.specs.Names.{AddsNameOf};
 ghost use Rattle.qs_ruletext.specs.Cursors.{Readable, IsRead, Ends, IsHeadRead, EndsAtHead};
 
 use crate::cursor::{Halt, Start, behind, expect, forest_variable, next, start_of, tree_variable};
-use qs_lex::{Kind, Token, label_text};
+use qs_lex::{Kind, Token};
 use qs_pattern::{Head, Pattern};
-use qs_tree::{Label, Names};
-use std::alloc::{AllocError, Global};
-
-/// The label that the token is.
-pub fn label_of(
-    alloc: Global,
-    text: &str,
-    token: &Token,
-    names: &mut Names,
-) -> Result<Label, AllocError>
-    requires of_text { IsTokenOf text.now token.now }
-    requires label { IsLabel token.now }
-    requires room { length names.old + 1 < 2 ^ 32 }
-    ensures keeps { KeepsNames names.old names.new }
-    ensures label { IfOk result (λ label. (later : _) → KeepsNames names.new later → IsLabelOf later text.now token.now label) }
-    ensures adds { IfOk result (λ _. AddsNameOf text.now token.now names.old names.new) }
-    ensures few { IfOk result (λ _. length names.new ≤ length names.old + 1) }
-{
-    names.intern(&label_text(alloc, text, token)?)
-}
+use qs_reader::label_of;
+use qs_tree::Names;
+use std::alloc::Global;
 
 /// A label or a label variable.
 fn head<'t>(
