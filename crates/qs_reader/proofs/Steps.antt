@@ -35,6 +35,9 @@ none_here line table f sort r (Syntax at) some none e =
     }
 none_here line table f sort r Memory some none e = tt
 
+pub stayed_here : {k sort : Sort} {r s : Reading} {end : TextEnd} → Stays sort r s → EndsHere k s end → EndsHere k r end
+stayed_here {k} {end} st e = subst (λ r. EndsHere k r end) st.same e
+
 module _ {Part : Type 0} {line : Grammar Part} {table : Part → Sort → Bool} where
   pub passed_read : {sort : Sort} {t : Token} {R : Reads} {r s : Reading} (names : List (List ℕ)) → same_sort the_label sort ≡ false → IsOf sort t
       → ((later : List (List ℕ)) → R later r.text (t ∷ rest_of s) (rest_of s)) → IsPassed t r s → IsRead line table (one sort) R r s names names
@@ -140,9 +143,6 @@ module _ {Part : Type 0} {line : Grammar Part} {table : Part → Sort → Bool} 
   stayed_read {f} {R} {u} {old} {new} st a = subst (λ r. IsRead line table f R r u old new) st.same a
 
   -- where it stops
-  pub stayed_here : {k sort : Sort} {r s : Reading} {end : TextEnd} → Stays sort r s → EndsHere k s end → EndsHere k r end
-  stayed_here {k} {end} st e = subst (λ r. EndsHere k r end) st.same e
-
   pub stayed_ends : {f : Form Part} {sort : Sort} {r s : Reading} {end : TextEnd} → Stays sort r s → Ends line table f s end → Ends line table f r end
   stayed_ends {f} {end} st e = subst (λ r. Ends line table f r end) st.same e
 

@@ -1,5 +1,5 @@
 -- The next token, and what passing it does.
-use Rattle.std.proofs.Common.{◌≡◌, ℕ, suc, ◌+◌, ◌<◌, ◌≤◌, refl, sym, ◌∙◌, ap, subst, List, [], ◌∷◌, length, drop, arith, get_or}
+use Rattle.std.proofs.Common.{◌≡◌, ℕ, suc, ◌+◌, ◌<◌, ◌≤◌, false, refl, sym, ◌∙◌, ap, subst, List, [], ◌∷◌, length, drop, arith, get_or}
 use Rattle.std.specs.List.{All}
 use Rattle.std.proofs.Math.Seq.{drop-cons}
 use Rattle.std.proofs.lemmas.List.Elements.{All-get_or}
@@ -8,8 +8,9 @@ use Rattle.qs_lex.specs.declared.token.Kind.{Kind}
 use Rattle.qs_lex.specs.declared.token.Kind.TheVariants.{Bare, Quoted, Variable, Node, Word as a_word, Opening, Closing, Comma, Plus, Slash, Equals, Stop}
 use Rattle.qs_lex.specs.Spelling.{IsLabelText}
 use Rattle.qs_lex.specs.Tokens.{IsTokenOf, bytes_of, HasLabelText}
-use Rattle.qs_lex.specs.Grammar.{a_label, sort_of, IsOf}
-use Rattle.qs_reader.specs.Readers.{Reading, IsNext, IsPassed}
+use Rattle.qs_lex.specs.Grammar.{Sort, a_label, sort_of, IsOf}
+use Rattle.qs_lex.specs.Expecting.{same_sort, NextIsNo}
+use Rattle.qs_reader.specs.Readers.{Reading, rest_of, IsNext, IsPassed, Stays}
 
 next_at : (tokens : List Token) (place : ℕ) (t : Token) → place < length tokens → t ≡ get_or tokens place t → drop place tokens ≡ t ∷ drop (place + 1) tokens
 next_at tokens place t some e =
@@ -57,3 +58,10 @@ label_sort text t spelling h = by_kind t.kind (bytes_of text t) h
     by_kind Slash bytes g = absurd g
     by_kind Equals bytes g = absurd g
     by_kind Stop bytes g = absurd g
+
+-- where no token, or one of another sort, stands next
+pub nothing_next : (s : Sort) (r : Reading) → rest_of r ≡ [] → r.place ≤ length r.tokens → Stays s r r
+nothing_next s r e within = record { same = refl; within = within; none = subst (λ ts. NextIsNo (same_sort s) ts) (sym e) tt }
+
+pub other_next : (s : Sort) (r : Reading) (t : Token) → IsNext t r → same_sort s (sort_of t.kind) ≡ false → Stays s r r
+other_next s r t n differs = record { same = refl; within = omega (arith, n.some); none = subst (λ ts. NextIsNo (same_sort s) ts) (sym n.are) differs }

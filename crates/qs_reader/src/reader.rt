@@ -6,7 +6,7 @@ ghost use Rattle.qs_lex.specs.declared.token.Token.{Token};
 ghost use Rattle.qs_lex.specs.Tokens.{IsTokenOf};
 ghost use Rattle.qs_lex.specs.Grammar.{a_label, sort_of};
 ghost use Rattle.qs_reader.specs.Names.{KeepsNames};
-ghost use Rattle.qs_reader.specs.Readers.{rest_of, IsSign, IsNext, IsPassed, Passes, Stays, NamesLabel, EndsHere};
+ghost use Rattle.qs_reader.specs.Readers.{rest_of, IsSign, IsNext, IsPassed, Passes, Stays, NamesLabel, EndsHere, between};
 
 use crate::labels::label_of;
 use crate::text_end::TextEnd;
@@ -62,6 +62,14 @@ impl<'a> Reader<'a> {
         ensures within { result ≤ length self.now.tokens }
     {
         self.place
+    }
+
+    /// The tokens that it has passed since this place.
+    pub fn since(&self, from: usize) -> &'a [Token]
+        requires { from ≤ self.now.place }
+        ensures { result.now ≡ between self.now.tokens from self.now.place }
+    {
+        &self.tokens[from..self.place]
     }
 
     /// The fault that the next token doesn't fit.
