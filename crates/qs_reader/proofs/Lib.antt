@@ -3,3 +3,4 @@ pub mod Tokens
 pub mod Taking
 pub mod Steps
 pub mod Lists
+pub mod Between

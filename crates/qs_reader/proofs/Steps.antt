@@ -107,14 +107,13 @@ module _ {Part : Type 0} {line : Grammar Part} {table : Part → Sort → Bool} 
       }
 
   -- what was read so is read so too, and takes another form
-  pub read_as : {f g : Form Part} {R S : Reads} {r s : Reading} {old new : List (List ℕ)}
-      → ((ts rest : List Token) → IsTaken line table f ts rest → IsTaken line table g ts rest)
-      → ((names : List (List ℕ)) (text : List ℕ) (ts rest : List Token) → R names text ts rest → S names text ts rest)
+  pub read_at : {f g : Form Part} {R S : Reads} {r s : Reading} {old new : List (List ℕ)}
+      → (IsTaken line table f (rest_of r) (rest_of s) → IsTaken line table g (rest_of r) (rest_of s)) → ((later : List (List ℕ)) → R later r.text (rest_of r) (rest_of s) → S later r.text (rest_of r) (rest_of s))
       → IsRead line table f R r s old new → IsRead line table g S r s old new
-  read_as {r} {s} takes reads a =
+  read_at takes reads a =
       record {
-        reads = λ later k. reads later r.text (rest_of r) (rest_of s) (a.reads later k);
-        takes = takes (rest_of r) (rest_of s) a.takes;
+        reads = λ later k. reads later (a.reads later k);
+        takes = takes a.takes;
         names = a.names;
         keeps = a.keeps;
         goes_on = a.goes_on;
@@ -124,19 +123,19 @@ module _ {Part : Type 0} {line : Grammar Part} {table : Part → Sort → Bool} 
 
   pub read_so : {f : Form Part} {R S : Reads} {r s : Reading} {old new : List (List ℕ)} → ((names : List (List ℕ)) (text : List ℕ) (ts rest : List Token) → R names text ts rest → S names text ts rest)
       → IsRead line table f R r s old new → IsRead line table f S r s old new
-  read_so reads a = read_as (λ ts rest w. w) reads a
+  read_so {r} {s} reads a = read_at (λ w. w) (λ later x. reads later r.text (rest_of r) (rest_of s) x) a
 
   pub part_read : {p : Part} {R : Reads} {r s : Reading} {old new : List (List ℕ)} → IsRead line table (line p) R r s old new → IsRead line table (part p) R r s old new
-  part_read a = read_as (λ ts rest w. takes_part w) (λ names text ts rest x. x) a
+  part_read a = read_at (λ w. takes_part w) (λ later x. x) a
 
   pub this_read : {f g : Form Part} {R : Reads} {r s : Reading} {old new : List (List ℕ)} → IsRead line table f R r s old new → IsRead line table (f ∣ g) R r s old new
-  this_read a = read_as (λ ts rest w. takes_this w) (λ names text ts rest x. x) a
+  this_read a = read_at (λ w. takes_this w) (λ later x. x) a
 
   pub other_read : {f g : Form Part} {R : Reads} {r s : Reading} {old new : List (List ℕ)} → IsRead line table g R r s old new → IsRead line table (f ∣ g) R r s old new
-  other_read a = read_as (λ ts rest w. takes_other w) (λ names text ts rest x. x) a
+  other_read a = read_at (λ w. takes_other w) (λ later x. x) a
 
   pub member_read : {f : Form Part} {R : Reads} {r s : Reading} {old new : List (List ℕ)} → IsRead line table f R r s old new → IsRead line table (optional f) R r s old new
-  member_read a = read_as (λ ts rest w. takes_member w) (λ names text ts rest x. x) a
+  member_read a = read_at (λ w. takes_member w) (λ later x. x) a
 
   -- from where it stayed
   pub stayed_read : {f : Form Part} {R : Reads} {sort : Sort} {r s u : Reading} {old new : List (List ℕ)} → Stays sort r s → IsRead line table f R s u old new → IsRead line table f R r u old new
