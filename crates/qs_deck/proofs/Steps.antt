@@ -11,8 +11,8 @@ use Rattle.qs_lex.proofs.Going.{leads_on, leads_part, leads_sequence, stops_here
 use Rattle.qs_lex.proofs.Stopping.{again_stops, repeat_leads}
 use Rattle.qs_lex.proofs.Renaming.{whole_in, whole_back, begins_in, begins_back}
 use Rattle.qs_ruletext.specs.Grammar as rules
-use Rattle.qs_ruletext.specs.declared.raw.TextEnd.{TextEnd}
-use Rattle.qs_ruletext.specs.declared.raw.TextEnd.TheVariants.{Syntax, Memory}
+use Rattle.qs_reader.specs.declared.text_end.TextEnd.{TextEnd}
+use Rattle.qs_reader.specs.declared.text_end.TextEnd.TheVariants.{Syntax, Memory}
 use Rattle.qs_ruletext.specs.Rules.{between, CannotGoOn, EndsFrom, NoRuleAt}
 use Rattle.qs_ruletext.specs.Cursors.{IsNext, begins_tree}
 use Rattle.qs_ruletext.proofs.Between.{drop_twice, next_at, between_drop, some_between}

@@ -8,8 +8,8 @@ use Rattle.qs_lex.specs.Expecting.{same_sort, starts, NextIsNo, BeginAll, AllWho
 use Rattle.qs_lex.proofs.Going.{leads_on, leads_part, leads_sequence, leads_done, leads_again, stops_behind}
 use Rattle.qs_lex.proofs.Predictive.{whole_leads}
 use Rattle.qs_lex.proofs.Renaming.{whole_in}
-use Rattle.qs_ruletext.specs.declared.raw.TextEnd.{TextEnd}
-use Rattle.qs_ruletext.specs.declared.raw.TextEnd.TheVariants.{Syntax, Memory}
+use Rattle.qs_reader.specs.declared.text_end.TextEnd.{TextEnd}
+use Rattle.qs_reader.specs.declared.text_end.TextEnd.TheVariants.{Syntax, Memory}
 use Rattle.qs_ruletext.specs.Grammar as rules
 use Rattle.qs_ruletext.specs.Reading.{IsLabelOf}
 use Rattle.qs_ruletext.specs.Rules.{KeepsNames, ReadsRules, NoRuleAt, between}

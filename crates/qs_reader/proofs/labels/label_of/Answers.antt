@@ -1,7 +1,7 @@
 use Rattle.std.proofs.Common.{sym, subst}
 use Rattle.qs_lex.specs.Tokens.{HasLabelText}
-use Rattle.qs_ruletext.proofs.Naming.{adds_name_of}
-use Rattle.qs_ruletext.proofs.sides.label_of.Goals as goal
+use Rattle.qs_reader.proofs.Naming.{adds_name_of}
+use Rattle.qs_reader.proofs.labels.label_of.Goals as goal
 
 pub returns-clause-adds : goal.returns-clause-adds
 returns-clause-adds c =
