@@ -37,7 +37,7 @@ impl Model for Arcs {
 }
 
 impl Arcs {
-    /// The nodes and the arcs of a graph.
+    /// The nodes and the arcs of a graph, which own the same trees. No tree is copied.
     pub fn of(alloc: Global, graph: &Graph) -> Result<Arcs, AllocError>
         ensures { IfOk result (λ a. a ≡ graph.now) }
     {
@@ -133,7 +133,8 @@ impl Arcs {
 }
 
 impl Arcs {
-    /// A chain of the trees from one node to another, through new nodes. After an error some of it may be there.
+    /// A chain of the trees from one node to another, through new nodes. Each tree becomes that of its arc, and is never
+    /// copied again. After an error some of the chain may be there.
     pub fn add_chain(&mut self, from: u32, to: u32, trees: Vec<Tree>) -> Result<(), AllocError>
         requires from { IsNode self.old from }
         requires to { IsNode self.old to }
@@ -147,11 +148,7 @@ impl Arcs {
         for tree in trees {
             left -= 1;
             let end = self.next_node(left, to)?;
-            self.push(Edge {
-                from: at,
-                to: end,
-                tree,
-            })?;
+            self.push(Edge::new(self.alloc, at, end, tree)?)?;
             at = end;
         }
         Ok(())
