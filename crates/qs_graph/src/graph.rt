@@ -99,11 +99,7 @@ impl Graph {
         let mut next = 3;
         for tree in trees {
             let end = if edges.len() + 1 == len { to } else { next };
-            edges.push(Edge {
-                from: at,
-                to: end,
-                tree,
-            })?;
+            edges.push(Edge::new(alloc, at, end, tree)?)?;
             at = end;
             next += 1;
         }
@@ -116,7 +112,7 @@ impl Graph {
         })
     }
 
-    /// An equal graph.
+    /// An equal graph, whose arcs own the same trees. No tree is copied.
     pub fn copy(&self) -> Result<Graph, AllocError>
         ensures { IfOk result (λ g. g ≡ self.now) }
     {
