@@ -15,7 +15,8 @@ use Rattle.qs_graph.specs.Chains.{chain}
 use Rattle.qs_graph.proofs.Lines.{member-slice_get}
 use Rattle.qs_graph.proofs.Paths.{append_cases}
 use Rattle.qs_firing.specs.Firings.{Firing, Fires}
-use Rattle.qs_firing.specs.Adding.{start_of, end_of, built}
+use Rattle.qs_firing.specs.Adding.{start_of, end_of, built, added}
+use Rattle.qs_firing.proofs.Merging.{in_added}
 use Rattle.qs_canon.specs.Rounds.{Rounds, Stage, after, after_one}
 
 -- the arcs of some numbers are arcs of the list
@@ -57,8 +58,9 @@ module _ (n : ℕ) where
     after_named m S (f ∷ fs) named h =
         let a = start_of S.graph.arcs f.path in
         let b = end_of S.graph.arcs f.path in
+        let ts = added R S.graph f in
         after_named m (after_one R m S f) fs
-        (λ arc i. ⊎_elim (named arc) (chain_named a (built R f) (S.graph.nodes + 1) b (h f (inl refl)) arc) (append_cases S.graph.arcs (chain a (built R f) (S.graph.nodes + 1) b) arc i))
+        (λ arc i. ⊎_elim (named arc) (chain_named a ts (S.graph.nodes + 1) b (λ t j. h f (inl refl) t (in_added R S.graph f t j)) arc) (append_cases S.graph.arcs (chain a ts (S.graph.nodes + 1) b) arc i))
         (λ g i. h g (inr i))
 
     pub rounds_named : (G : QGraph) → AreArcsNamed G.arcs → (m : ℕ) (S : Stage) → Rounds R G m S → AreArcsNamed S.graph.arcs

@@ -1,6 +1,6 @@
 -- How the logic tells stages and closures apart. Nothing that a reader has to believe stands here.
-use Rattle.std.specs.Prelude.{ℕ, List, refl}
-use Rattle.std.specs.Coded.{Coded, code_by, coded×, coded_list, coded_ℕ}
+use Rattle.std.specs.Prelude.{ℕ, Bool, List, refl}
+use Rattle.std.specs.Coded.{Coded, code_by, coded×, coded_list, coded_bool, coded_ℕ}
 use Rattle.qs_graph.specs.Graphs.{QGraph}
 use Rattle.qs_graph.specs.Codes.{graph_code}
 use Rattle.qs_firing.specs.Firings.{Firing}
@@ -10,7 +10,8 @@ use Rattle.qs_canon.specs.Closures.{ClosureOf}
 
 abbrev pub done_code : Coded Done
 done_code =
-    code_by (Firing × (ℕ × ℕ)) (coded× firing_code (coded× coded_ℕ coded_ℕ)) (λ d. (d.firing, (d.first, d.round))) (λ p. record { firing = p.0; first = p.1.0; round = p.1.1 }) (λ _. refl)
+    code_by (Firing × (ℕ × (ℕ × Bool))) (coded× firing_code (coded× coded_ℕ (coded× coded_ℕ coded_bool)))
+    (λ d. (d.firing, (d.first, (d.round, d.met)))) (λ p. record { firing = p.0; first = p.1.0; round = p.1.1.0; met = p.1.1.1 }) (λ _. refl)
 
 abbrev pub stage_code : Coded Stage
 stage_code = code_by (QGraph × List Done) (coded× graph_code (coded_list done_code)) (λ s. (s.graph, s.done)) (λ p. record { graph = p.0; done = p.1 }) (λ _. refl)

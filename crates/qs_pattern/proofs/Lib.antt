@@ -11,3 +11,4 @@ pub mod MatchDecisions
 pub mod Candidates
 pub mod Covering
 pub mod NamedLemmas
+pub mod Marks

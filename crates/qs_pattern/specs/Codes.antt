@@ -1,14 +1,14 @@
 -- How the logic tells patterns, conditions and rules apart: by a tree of numbers for each. Nothing that a reader has to
 -- believe stands here.
-use Rattle.std.specs.Prelude.{◌≡◌, Option, refl}
-use Rattle.std.specs.Coded.{Coded, code_by, coded×, coded_option}
+use Rattle.std.specs.Prelude.{◌≡◌, Bool, Option, refl}
+use Rattle.std.specs.Coded.{Coded, code_by, coded×, coded_bool, coded_option}
 use Rattle.std.proofs.Common.{ap}
 use base.Stored.{Gv, gnil, gcons}
 use Rattle.qs_pattern.specs.contracts.variable.Var as var
 use Rattle.qs_pattern.specs.contracts.pattern.Head as head
 use Rattle.qs_pattern.specs.Patterns.{Patterns, no_pattern, node_first, tree_var_first, forest_var_first}
 use Rattle.qs_pattern.specs.Conditions.{Condition, Conditions, within, outside, negated, all, any, no_condition, condition_first}
-use Rattle.qs_pattern.specs.Rules.{Rule}
+use Rattle.qs_pattern.specs.Rules.{Rule, UnmarkedRule, marked, unmarked}
 
 -- Marks that differ.
 abbrev first_mark : Gv
@@ -121,7 +121,10 @@ mutual
 abbrev pub condition_code : Coded Condition
 condition_code = record { code = condition_tree; inj = condition_tree-one }
 
-abbrev pub rule_code : Coded Rule
-rule_code =
+abbrev pub unmarked_code : Coded UnmarkedRule
+unmarked_code =
     code_by (Patterns × (Patterns × Option Condition)) (coded× patterns_code (coded× patterns_code (coded_option condition_code)))
     (λ r. (r.left, (r.right, r.condition))) (λ p. record { left = p.0; right = p.1.0; condition = p.1.1 }) (λ _. refl)
+
+abbrev pub rule_code : Coded Rule
+rule_code = code_by (Bool × UnmarkedRule) (coded× coded_bool unmarked_code) (λ r. (r.unique, unmarked r)) (λ p. marked p.0 p.1) (λ _. refl)

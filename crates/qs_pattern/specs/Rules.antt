@@ -1,5 +1,5 @@
 -- Rules, and which of them are accepted.
-use Rattle.std.specs.Prelude.{ℕ, ◌+◌, ◌≤◌, List, [], ◌++◌, length, Option, Some, None}
+use Rattle.std.specs.Prelude.{◌≡◌, ℕ, ◌+◌, ◌≤◌, Bool, true, ◌&&◌, List, [], ◌∷◌, ◌++◌, length, Option, Some, None}
 use Rattle.qs_tree.specs.Lists.{◌∈◌}
 use Rattle.qs_pattern.specs.declared.variable.Var.{Var}
 use Rattle.qs_pattern.specs.Variables.{firsts}
@@ -7,11 +7,34 @@ use Rattle.qs_pattern.specs.Patterns.{Patterns, count, cells, variables_in, AreI
 use Rattle.qs_pattern.specs.Conditions.{Condition, condition_cells, condition_variables, IsConditionInClass, HasEnoughMembers}
 
 -- A rule adds, beside a path of trees that its left side stands for, a path of the trees that its right side stands
--- for, where its condition holds.
+-- for, where its condition holds. It is marked unique or isn't. In a grammar whose rules are all unique, a firing with
+-- one right tree whose arc already stands adds none (this project's own).
 pub record Rule : Type 0 where
   pub left : Patterns
   pub right : Patterns
   pub condition : Option Condition
+  pub unique : Bool
+
+-- What a rule is without the mark, as it stands in a text.
+pub record UnmarkedRule : Type 0 where
+  pub left : Patterns
+  pub right : Patterns
+  pub condition : Option Condition
+
+abbrev pub unmarked : Rule → UnmarkedRule
+unmarked rule = record { left = rule.left; right = rule.right; condition = rule.condition }
+
+-- The rule with the mark, or without it.
+abbrev pub marked : Bool → UnmarkedRule → Rule
+marked unique rule = record { left = rule.left; right = rule.right; condition = rule.condition; unique = unique }
+
+-- Each of the rules is marked unique; and whether it is so.
+abbrev pub IsUnique : List Rule → Type 0
+IsUnique rules = (rule : Rule) → rule ∈ rules → rule.unique ≡ true
+
+abbrev pub all_unique : List Rule → Bool
+all_unique [] = true
+all_unique (rule ∷ rules) = rule.unique && all_unique rules
 
 -- What is asked of a condition is asked of a rule that has one.
 abbrev pub cells_if_given : Option Condition → ℕ
@@ -31,15 +54,15 @@ HasEnoughMembersIfGiven None = Unit {0}
 HasEnoughMembersIfGiven (Some c) = HasEnoughMembers c
 
 -- The variables of the right side and of the condition in text order, with repetitions.
-abbrev pub variables_behind : Rule → List Var
+abbrev pub variables_behind : UnmarkedRule → List Var
 variables_behind rule = variables_in rule.right ++ variables_if_given rule.condition
 
 -- The variables of the whole rule in text order, with repetitions.
-abbrev pub rule_variables : Rule → List Var
+abbrev pub rule_variables : UnmarkedRule → List Var
 rule_variables rule = variables_in rule.left ++ variables_behind rule
 
 -- How many labels and variables are written in the rule.
-abbrev pub rule_cells : Rule → ℕ
+abbrev pub rule_cells : UnmarkedRule → ℕ
 rule_cells rule = cells rule.left + cells rule.right + cells_if_given rule.condition
 
 -- A side has 1 to 16 patterns, none of which is a forest variable, with each variable at a place of its class.
@@ -49,10 +72,10 @@ pub record IsSide (side : Patterns) : Type 0 where
   pub no_forest_at_top : NoForestAtTop side
   pub in_class : AreInClass side
 
--- An accepted rule has two such sides, a condition in class that joins at least two wherever it joins, at most 256
--- labels and variables, at most 32 different variables, and each variable of its right side and of its condition occurs
--- in its left side.
-pub record IsAccepted (rule : Rule) : Type 0 where
+-- A rule can be accepted that has two such sides, a condition in class that joins at least two wherever it joins, at
+-- most 256 labels and variables, at most 32 different variables, and each variable of whose right side and condition
+-- occurs in its left side.
+pub record IsAcceptable (rule : UnmarkedRule) : Type 0 where
   pub left : IsSide rule.left
   pub right : IsSide rule.right
   pub condition : IsInClassIfGiven rule.condition
@@ -60,6 +83,10 @@ pub record IsAccepted (rule : Rule) : Type 0 where
   pub cells : rule_cells rule ≤ 256
   pub variables : length (firsts (rule_variables rule)) ≤ 32
   pub bound : (v : Var) → v ∈ variables_behind rule → v ∈ variables_in rule.left
+
+-- An accepted rule is such a one, marked or not.
+abbrev pub IsAccepted : Rule → Type 0
+IsAccepted rule = IsAcceptable (unmarked rule)
 
 -- In the left side of each of these rules every variable stands at a place of its class, as it does in accepted rules.
 abbrev pub AreLeftSidesInClass : List Rule → Type 0

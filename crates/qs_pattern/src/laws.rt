@@ -1,13 +1,13 @@
 //! Laws of rules, over their definitions alone.
 
-ghost use Rattle.std.specs.Prelude.{◌≡◌, ℕ, List, Some};
+ghost use Rattle.std.specs.Prelude.{◌≡◌, ◌↔◌, ℕ, true, List, Some};
 ghost use Rattle.qs_tree.specs.Lists.{◌∈◌};
 ghost use Rattle.qs_tree.specs.Trees.{Tree};
 ghost use Rattle.qs_tree.specs.Text.{IsNamed};
 ghost use Rattle.qs_pattern.specs.Substitutions.{Substitution};
 ghost use Rattle.qs_pattern.specs.Instances.{IsCovered, IsMatch, inst};
 ghost use Rattle.qs_pattern.specs.Conditions.{Condition, IsConditionCovered};
-ghost use Rattle.qs_pattern.specs.Rules.{Rule, IsAccepted, AreLeftSidesInClass};
+ghost use Rattle.qs_pattern.specs.Rules.{Rule, IsAccepted, AreLeftSidesInClass, IsUnique, all_unique};
 ghost use Rattle.qs_pattern.specs.Named.{ArePatternsNamed};
 
 /// Accepted rules have their variables at places of their classes.
@@ -27,4 +27,9 @@ pub fn a_match_covers_its_rule()
 pub fn rules_make_no_labels()
     ensures { (n : ℕ) (rule : Rule) → IsAccepted rule → ArePatternsNamed n rule.right → (ts : List Tree) (s : Substitution) → IsMatch rule.left ts s
         → ((t : Tree) → t ∈ ts → IsNamed n t) → (t : Tree) → t ∈ inst s rule.right → IsNamed n t }
+{}
+
+/// Rules are all marked unique exactly where `all_unique` says so.
+pub fn unique_rules_are_marked()
+    ensures { (rules : List Rule) → IsUnique rules ↔ (all_unique rules ≡ true) }
 {}

@@ -16,12 +16,16 @@ use std::marker::Model;
 /// one that its left side stands for, and maybe a condition. Each side has 1 to 16 patterns and no forest variable at
 /// its top, the rule has at most 256 labels and variables and at most 32 different variables, each variable of the
 /// right side and of the condition occurs in the left side, and the condition joins at least two wherever it joins.
+///
+/// A rule is marked unique or isn't. In a grammar whose rules are all unique, a firing with one right tree whose arc
+/// already stands adds none.
 #[derive(Drop)]
 pub struct Rule {
     alloc: Global,
     left: Vec<Pattern>,
     right: Vec<Pattern>,
     condition: Option<Cond>,
+    unique: bool,
 }
 
 impl Model for Rule {
@@ -35,27 +39,30 @@ impl Model for Rule {
 
     ghost coded = { rule_code };
 
-    ghost view = { λ r. record { left = patterns r.left.items; right = patterns r.right.items; condition = option_map condition_of r.condition } };
+    ghost view = { λ r. record { left = patterns r.left.items; right = patterns r.right.items; condition = option_map condition_of r.condition; unique = r.unique } };
 
-    ghost invariant = { λ r. IsAccepted (record { left = patterns r.left.items; right = patterns r.right.items; condition = option_map condition_of r.condition }) };
+    ghost invariant = { λ r. IsAccepted (record { left = patterns r.left.items; right = patterns r.right.items; condition = option_map condition_of r.condition; unique = r.unique }) };
 }
 
 impl Rule {
-    /// The rule of these two sides and this condition, which have to make an accepted rule. Takes no memory.
+    /// The rule of these two sides and this condition, which have to make an accepted rule, with this mark. Takes no
+    /// memory.
     pub fn new(
         alloc: Global,
         left: Vec<Pattern>,
         right: Vec<Pattern>,
         condition: Option<Cond>,
+        unique: bool,
     ) -> Rule
-        requires { IsAccepted (record { left = patterns left.items; right = patterns right.items; condition = option_map condition_of condition }) }
-        ensures { result ≡ record { left = patterns left.items; right = patterns right.items; condition = option_map condition_of condition } }
+        requires { IsAccepted (record { left = patterns left.items; right = patterns right.items; condition = option_map condition_of condition; unique = unique }) }
+        ensures { result ≡ record { left = patterns left.items; right = patterns right.items; condition = option_map condition_of condition; unique = unique } }
     {
         Rule {
             alloc,
             left,
             right,
             condition,
+            unique,
         }
     }
 
@@ -83,7 +90,14 @@ impl Rule {
         self.condition.as_ref()
     }
 
-    /// An equal rule.
+    /// Whether the rule is marked unique. Takes no memory.
+    pub fn unique(&self) -> bool
+        ensures { result ≡ self.now.unique }
+    {
+        self.unique
+    }
+
+    /// An equal rule, with its mark.
     pub fn copy(&self) -> Result<Rule, AllocError>
         ensures { IfOk result (λ r. r ≡ self.now) }
     {
@@ -96,6 +110,7 @@ impl Rule {
             left,
             right,
             condition,
+            unique: self.unique,
         })
     }
 }
