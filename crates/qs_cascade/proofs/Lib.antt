@@ -7,6 +7,7 @@ pub mod Choosing
 pub mod Paths
 pub mod Extending
 pub mod Starting
+pub mod Standing
 pub mod Together
 pub mod Laying
 pub mod Reaching
