@@ -13,7 +13,9 @@ pub mod Laying
 pub mod Reaching
 pub mod Closings
 pub mod Taken
+pub mod Marked
 pub mod Leaves
 pub mod Additions
+pub mod Meeting
 pub mod Doing
 pub mod OneEnd

@@ -1,5 +1,5 @@
 -- The least arc between two nodes that carries a tree, looked for among the arcs that leave the first node.
-use Rattle.std.proofs.Common.{◌≡◌, ℕ, zero, suc, ◌<◌, ◌≤◌, inl, inr, ⊎_elim, List, [], ◌∷◌, length, take, get_or, Option, Some, None, slice_get, refl, sym, ap, ◌∙◌, arith}
+use Rattle.std.proofs.Common.{◌≡◌, ℕ, zero, suc, ◌<◌, ◌≤◌, inl, inr, ⊎_elim, List, [], ◌∷◌, length, take, get_or, Option, Some, None, slice_get, refl, sym, ap, ◌∙◌, subst, arith}
 use Rattle.std.proofs.lemmas.Bool.{cases_lt}
 use Rattle.qs_tree.specs.Lists.{◌∈◌, Ascends}
 use Rattle.qs_tree.specs.Trees.{Tree}
@@ -37,7 +37,7 @@ module _ (arcs : List Arc) (a b : ℕ) (t : Tree) where
       tested (Some l) e = let at = least_is arcs a b t l e in absurd (others l (leaves arcs l (arc a b t) at) (arc a b t) at (refl, refl))
 
   -- the first of the arcs that leave a which is such a one is the least
-  pub first_stands : (i : ℕ) → i < length (leaving arcs a) → ((k : ℕ) → k ∈ take i (leaving arcs a) → IsOther arcs b t k) → (x : Arc) → slice_get arcs (get_or (leaving arcs a) i 0) ≡ Some x → x.to ≡ b → x.tree ≡ t
+  first_stands : (i : ℕ) → i < length (leaving arcs a) → ((k : ℕ) → k ∈ take i (leaving arcs a) → IsOther arcs b t k) → (x : Arc) → slice_get arcs (get_or (leaving arcs a) i 0) ≡ Some x → x.to ≡ b → x.tree ≡ t
       → least_arc arcs a b t ≡ Some (get_or (leaving arcs a) i 0)
   first_stands i h others x at to tree =
       let k : ℕ = get_or (leaving arcs a) i 0 in
@@ -50,3 +50,10 @@ module _ (arcs : List Arc) (a b : ℕ) (t : Tree) where
           (λ low. absurd (others j (in_front (leaving arcs a) (leaving-ascends arcs a) i h j (leaves arcs j (arc a b t) here) low) (arc a b t) here (refl, refl)))
           (λ high. high)
           (cases_lt j k))
+
+-- the same for a list that is that of these arcs
+pub first_of : (ks : List ℕ) (arcs : List Arc) (a b : ℕ) (t : Tree) → ks ≡ leaving arcs a → (i : ℕ) → i < length ks → ((k : ℕ) → k ∈ take i ks → IsOther arcs b t k) → (x : Arc) → slice_get arcs (get_or ks i 0) ≡ Some x → x.to ≡ b → x.tree ≡ t
+    → least_arc arcs a b t ≡ Some (get_or ks i 0)
+first_of ks arcs a b t e i =
+    subst (λ (js : List ℕ). i < length js → ((k : ℕ) → k ∈ take i js → IsOther arcs b t k) → (x : Arc) → slice_get arcs (get_or js i 0) ≡ Some x → x.to ≡ b → x.tree ≡ t → least_arc arcs a b t ≡ Some (get_or js i 0)) (sym e)
+    (first_stands arcs a b t i)

@@ -117,12 +117,13 @@ pub fn do_round(
 {
     for firing in found {
         let first = add(alloc, rules, unique, arcs, &firing)?;
-        done.push(Placed {
+        let placed = Placed {
             firing,
             first: first.number,
             round,
             met: first.met,
-        })?;
+        };
+        done.push(placed)?;
     }
     Ok(())
 }
