@@ -1,5 +1,5 @@
 -- The least arc between two nodes that carries a tree, looked for among the arcs that leave the first node.
-use Rattle.std.proofs.Common.{◌≡◌, ℕ, zero, suc, ◌<◌, ◌≤◌, inl, inr, ⊎_elim, List, [], ◌∷◌, length, take, get_or, Option, Some, None, slice_get, refl, sym, ap, ◌∙◌, subst, arith}
+use Rattle.std.proofs.Common.{◌≡◌, ℕ, zero, suc, ◌<◌, inl, inr, ⊎_elim, List, [], ◌∷◌, length, take, get_or, Option, Some, None, slice_get, refl, sym, ap, ◌∙◌, subst, arith}
 use Rattle.std.proofs.lemmas.Bool.{cases_lt}
 use Rattle.qs_tree.specs.Lists.{◌∈◌, Ascends}
 use Rattle.qs_tree.specs.Trees.{Tree}
@@ -47,9 +47,9 @@ module _ (arcs : List Arc) (a b : ℕ) (t : Tree) where
       let is : x ≡ arc a b t = λ j. record { from = start j; to = to j; tree = tree j } in
       is_least arcs a b t k (at ∙ ap Some is)
       (λ j here. ⊎_elim
-          (λ low. absurd (others j (in_front (leaving arcs a) (leaving-ascends arcs a) i h j (leaves arcs j (arc a b t) here) low) (arc a b t) here (refl, refl)))
-          (λ high. high)
-          (cases_lt j k))
+      (λ low. absurd (others j (in_front (leaving arcs a) (leaving-ascends arcs a) i h j (leaves arcs j (arc a b t) here) low) (arc a b t) here (refl, refl)))
+      (λ high. high)
+      (cases_lt j k))
 
 -- the same for a list that is that of these arcs
 pub first_of : (ks : List ℕ) (arcs : List Arc) (a b : ℕ) (t : Tree) → ks ≡ leaving arcs a → (i : ℕ) → i < length ks → ((k : ℕ) → k ∈ take i ks → IsOther arcs b t k) → (x : Arc) → slice_get arcs (get_or ks i 0) ≡ Some x → x.to ≡ b → x.tree ≡ t

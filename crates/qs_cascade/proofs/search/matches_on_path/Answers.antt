@@ -4,7 +4,6 @@ use Rattle.std.proofs.lemmas.Result.{IfOk-weaker}
 use Rattle.qs_tree.specs.Trees.{Tree}
 use Rattle.qs_tree.specs.Cells.{trees_of}
 use Rattle.qs_pattern.specs.Patterns.{patterns}
-use Rattle.qs_pattern.specs.Substitutions.{Substitution}
 use Rattle.qs_pattern.specs.Instances.{IsMatch}
 use Rattle.qs_graph.specs.Graphs.{Arc, trees_on}
 use Rattle.qs_cascade.proofs.Paths.{arc_on, trees_on-one}

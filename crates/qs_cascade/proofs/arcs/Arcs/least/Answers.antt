@@ -1,10 +1,9 @@
-use Rattle.std.proofs.Common.{◌≡◌, ◌<◌, ◌↔◌, ℕ, IsTrue, true, false, List, Some, length, take, get_or, slice_get, sym, ap, ◌∙◌, subst, arith}
+use Rattle.std.proofs.Common.{◌≡◌, ℕ, List, Some, take, get_or, slice_get, sym, ◌∙◌, subst}
 use Rattle.std.proofs.lemmas.Option.{slice_get_within, slice_get-get_or}
 use Rattle.std.proofs.lemmas.List.{take_all}
 use Rattle.qs_tree.specs.Lists.{◌∈◌}
 use Rattle.qs_tree.specs.Trees.{Tree}
 use Rattle.qs_tree.specs.Cells.{tree_of}
-use Rattle.qs_graph.specs.Graphs.{Arc}
 use Rattle.qs_graph.proofs.Numbers.{in_at}
 use Rattle.qs_cascade.specs.Leaving.{leaving}
 use Rattle.qs_cascade.proofs.Findings.{true_is_not_false}
