@@ -1,12 +1,10 @@
 -- What small grammars of unique rules close to, computed.
 use Rattle.std.proofs.Common.{◌≡◌, ℕ, suc, List, [], ◌∷◌, length, refl, sym, subst, ⊎_elim, arith}
-use Rattle.qs_tree.specs.Lists.{◌∈◌}
-use Rattle.qs_tree.specs.declared.cell.Label.{Label}
 use Rattle.qs_pattern.specs.Patterns.{AreInClass}
 use Rattle.qs_pattern.specs.Rules.{Rule, AreLeftSidesInClass}
 use Rattle.qs_graph.specs.Graphs.{QGraph}
 use Rattle.qs_canon.specs.Rounds.{Stage, start, firings, after, Rounds, Closes, Needs}
-use Rattle.qs_canon.specs.Merging.{A, B, C, side, rule, one_arc, itself, itself_closure, twice, twice_closure, several, several_closure, at_start, equal_arcs, at_start_closure, circle, circle_closure, either, two_arcs, either_closure}
+use Rattle.qs_canon.specs.Merging.{A, B, C, rule, one_arc, itself, itself_closure, twice, twice_closure, several, several_closure, at_start, equal_arcs, at_start_closure, circle, circle_closure, either, two_arcs, either_closure}
 use Rattle.qs_canon.proofs.Existence.{the_round, the_round-is}
 
 -- a rule from one label is in class

@@ -1,7 +1,7 @@
 -- Small grammars of unique rules, which merge equal arcs, with their closures worked out.
 use Rattle.std.specs.Prelude.{ℕ, Bool, true, false, List, [], ◌∷◌, None}
 use Rattle.qs_tree.specs.declared.cell.Label.{Label}
-use Rattle.qs_tree.specs.Trees.{Tree, node}
+use Rattle.qs_tree.specs.Trees.{node}
 use Rattle.qs_pattern.specs.declared.pattern.Head.TheVariants as head
 use Rattle.qs_pattern.specs.Patterns.{Patterns, no_pattern, node_first}
 use Rattle.qs_pattern.specs.Rules.{Rule}

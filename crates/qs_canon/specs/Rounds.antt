@@ -19,8 +19,8 @@ pub record Round (R : List Rule) (G : QGraph) (done : List Firing) (F : List Fir
 abbrev pub HasRounds : List Rule → Type 0
 HasRounds R = (G : QGraph) (done : List Firing) → (F : List Firing) × Round R G done F
 
--- A firing that is done, with the number of the first arc of its result, the number of its round, and whether it met that
--- arc.
+-- A firing that is done, with the number of the first arc of its result, the number of its round, and whether it met
+-- that arc.
 pub record Done : Type 0 where
   pub firing : Firing
   pub first : ℕ

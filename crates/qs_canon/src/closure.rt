@@ -4,8 +4,8 @@ use qs_firing::Firing;
 use qs_graph::Edge;
 use std::marker::Model;
 
-/// A firing that is done, the number of the first arc of its result, the number of its round, from 1, and whether it met
-/// that arc, which stood already: then it added none, and that arc alone is its result.
+/// A firing that is done, the number of the first arc of its result, the number of its round, from 1, and whether it
+/// met that arc, which stood already: then it added none, and that arc alone is its result.
 #[derive(Drop)]
 pub struct Placed {
     pub firing: Firing,

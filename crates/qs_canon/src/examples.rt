@@ -5,9 +5,9 @@ ghost use Rattle.qs_canon.specs.Rounds.{Closes, Needs};
 ghost use Rattle.qs_canon.specs.Merging as example;
 
 /// Unique rules merge equal arcs. A == A on one arc A closes with one firing, which meets its own arc. A == B twice on
-/// one arc A adds one arc B, which the second firing meets. A == B + C twice adds two arcs for each firing. A == B beside
-/// two arcs B meets the first of them. A == B with B == A on one arc A closes with two firings, and needs more than one.
-/// A == B with C == B on an arc A beside an arc C adds one arc B.
+/// one arc A adds one arc B, which the second firing meets. A == B + C twice adds two arcs for each firing. A == B
+/// beside two arcs B meets the first of them. A == B with B == A on one arc A closes with two firings, and needs more
+/// than one. A == B with C == B on an arc A beside an arc C adds one arc B.
 pub fn equal_arcs_are_merged()
     ensures itself { Closes example.itself example.one_arc example.itself_closure }
     ensures twice { Closes example.twice example.one_arc example.twice_closure }

@@ -12,7 +12,7 @@ use Rattle.qs_pattern.proofs.Marks.{all_unique-true, true-all_unique}
 use Rattle.qs_graph.specs.Graphs.{Arc, QGraph, Leads, IsPath, arcs_at, trees_on}
 use Rattle.qs_graph.specs.Chains.{chain, with_chain}
 use Rattle.qs_firing.specs.Firings.{Firing}
-use Rattle.qs_firing.specs.Adding.{start_of, end_of, built, is_from_to, least_arc, standing, met, unless_met, added, adds, between, from_on, result_by, result_arcs, first_arc, meets}
+use Rattle.qs_firing.specs.Adding.{start_of, end_of, built, is_from_to, least_arc, standing, met, unless_met, added, adds, between, StandsAt, from_on, result_by, result_arcs, first_arc, meets}
 
 -- an arc by its ends and its tree
 abbrev pub arc : ℕ → ℕ → Tree → Arc
@@ -141,13 +141,13 @@ length-added R G f = tested (met R G f)
     tested None = omega arith
 
 -- the two cases of what a firing adds
-pub is_met : (R : List Rule) (G : QGraph) (f : Firing) (t : Tree) (l : ℕ) → IsUnique R → built R f ≡ t ∷ [] → slice_get G.arcs l ≡ Some (between G f t) → ((k : ℕ) → slice_get G.arcs k ≡ Some (between G f t) → l ≤ k)
+pub is_met : (R : List Rule) (G : QGraph) (f : Firing) (t : Tree) (l : ℕ) → IsUnique R → built R f ≡ t ∷ [] → StandsAt G f t l → ((k : ℕ) → StandsAt G f t k → l ≤ k)
     → (adds R G f ≡ G) × (result_arcs R G f ≡ l ∷ []) × (first_arc R G f ≡ l) × (meets R G f ≡ true)
 is_met R G f t l u one at low =
     let e : met R G f ≡ Some l = met-one R G f t (all_unique-true R u) one ∙ is_least G.arcs (start_of G.arcs f.path) (end_of G.arcs f.path) t l at low in
     (met-adds R G f l e, ap (λ o. result_by o (length G.arcs) (length (built R f))) e, ap (λ o. unwrap_or o (length G.arcs)) e, ap is_some e)
 
-pub is_not_met : (R : List Rule) (G : QGraph) (f : Firing) → ((t : Tree) (k : ℕ) → IsUnique R → built R f ≡ t ∷ [] → slice_get G.arcs k ≡ Some (between G f t) → ⊥)
+pub is_not_met : (R : List Rule) (G : QGraph) (f : Firing) → ((t : Tree) (k : ℕ) → IsUnique R → built R f ≡ t ∷ [] → StandsAt G f t k → ⊥)
     → (adds R G f ≡ with_chain G (start_of G.arcs f.path) (built R f) (end_of G.arcs f.path)) × (result_arcs R G f ≡ from_on (length G.arcs) (length (built R f)))
     × (first_arc R G f ≡ length G.arcs) × (meets R G f ≡ false)
 is_not_met R G f none =

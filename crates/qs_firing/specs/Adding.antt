@@ -1,6 +1,6 @@
 -- What a firing adds to a graph, and which arcs are its result. (That a firing adds a path of trees beside its own is
 -- Colmerauer's, 1970; what becomes of equal arcs is this project's own.)
-use Rattle.std.specs.Prelude.{ℕ, zero, suc, ◌+◌, Bool, ◌&&◌, ◌==◌, if◌then◌else◌, List, [], ◌∷◌, length, slice_get, unwrap_or, Option, Some, None, is_some}
+use Rattle.std.specs.Prelude.{◌≡◌, ℕ, zero, suc, ◌+◌, Bool, ◌&&◌, ◌==◌, if◌then◌else◌, List, [], ◌∷◌, length, slice_get, unwrap_or, Option, Some, None, is_some}
 use Rattle.std.specs.Option.{option_map}
 use Rattle.qs_tree.specs.Trees.{Tree}
 use Rattle.qs_tree.specs.Sameness.{same_tree}
@@ -54,14 +54,18 @@ unless_met None ts = ts
 abbrev pub added : List Rule → QGraph → Firing → List Tree
 added R G f = unless_met (met R G f) (built R f)
 
--- A firing adds a chain of these trees between the ends of its path, behind all arcs that stand already; where it adds no
--- tree the graph stays as it is. Where it meets no arc, an equal arc that stands already changes nothing.
+-- A firing adds a chain of these trees between the ends of its path, behind all arcs that stand already; where it adds
+-- no tree the graph stays as it is. Where it meets no arc, an equal arc that stands already changes nothing.
 abbrev pub adds : List Rule → QGraph → Firing → QGraph
 adds R G f = with_chain G (start_of G.arcs f.path) (added R G f) (end_of G.arcs f.path)
 
 -- The arc that leads from the start of a firing's path to its end and carries this tree.
 abbrev pub between : QGraph → Firing → Tree → Arc
 between G f t = record { from = start_of G.arcs f.path; to = end_of G.arcs f.path; tree = t }
+
+-- The arc with this number is such an arc.
+abbrev pub StandsAt : QGraph → Firing → Tree → ℕ → Type 0
+StandsAt G f t k = slice_get G.arcs k ≡ Some (between G f t)
 
 -- So many numbers, from n on.
 abbrev pub from_on : ℕ → ℕ → List ℕ

@@ -3,8 +3,8 @@
 use Rattle.std.specs.Prelude.{Bool, true, false, ◌&&◌, ◌==◌}
 use Rattle.qs_tree.specs.Trees.{Forest, no_tree, first_tree, Tree}
 
--- Two lists of trees are the same where they have as many trees, and the trees at each place have the same label and the
--- same subtrees.
+-- Two lists of trees are the same where they have as many trees, and the trees at each place have the same label and
+-- the same subtrees.
 abbrev pub same_forest : Forest → Forest → Bool
 same_forest no_tree no_tree = true
 same_forest no_tree (first_tree m h s) = false
