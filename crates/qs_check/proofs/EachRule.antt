@@ -13,7 +13,7 @@ use Rattle.qs_pattern.specs.declared.pattern.Head.{Head}
 use Rattle.qs_pattern.specs.declared.pattern.Head.TheVariants as head
 use Rattle.qs_pattern.specs.Variables.{firsts}
 use Rattle.qs_pattern.specs.Patterns.{Patterns, no_pattern, node_first, tree_var_first, forest_var_first, count, cells, head_variables, variables_in}
-use Rattle.qs_pattern.specs.Rules.{IsAccepted, rule_cells, rule_variables, variables_behind}
+use Rattle.qs_pattern.specs.Rules.{IsAcceptable, rule_cells, rule_variables, variables_behind}
 use Rattle.qs_pattern.proofs.MatchDecisions.{decide_var}
 use Rattle.qs_pattern.proofs.VariableLemmas.{from_firsts, in_firsts}
 use Rattle.qs_ruletext.specs.Reading.{joined}
@@ -127,7 +127,7 @@ module _ (cs : List Head) where
 
 module _ (raw : WrittenRule) (can : CanBeChecked raw) where
   abbrev IsDecided : Type 0
-  IsDecided = IsAccepted raw.rule ⊎ ((cause : Cause) × (place : ℕ) × IsFirstCause raw.rule cause place)
+  IsDecided = IsAcceptable raw.rule ⊎ ((cause : Cause) × (place : ℕ) × IsFirstCause raw.rule cause place)
 
   by_binding : HasShortSides raw.rule → rule_cells raw.rule ≤ 256 → length (firsts (rule_variables raw.rule)) ≤ 32 → IsDecided
   by_binding short few fewer =
@@ -165,7 +165,7 @@ module _ (raw : WrittenRule) (can : CanBeChecked raw) where
       (side_decided raw.rule.left)
 
   -- with the byte of its cell
-  pub rule_accepted_or_refused : IsAccepted raw.rule ⊎ ((cause : Cause) × (at : ℕ) × EndsWith raw (Refused cause at))
+  pub rule_accepted_or_refused : IsAcceptable raw.rule ⊎ ((cause : Cause) × (at : ℕ) × EndsWith raw (Refused cause at))
   rule_accepted_or_refused =
       ⊎_elim (λ ok. inl ok)
       (λ c. inr (c.0, get_or raw.at c.1 0, (c.1, c.2, slice_get-get_or raw.at c.1 0 (omega (arith, place_within raw.rule c.0 c.1 c.2, can.bytes)))))

@@ -12,7 +12,7 @@ use Rattle.qs_pattern.specs.declared.pattern.Head.{Head}
 use Rattle.qs_pattern.specs.declared.pattern.Head.TheVariants as head
 use Rattle.qs_pattern.specs.Variables.{firsts}
 use Rattle.qs_pattern.specs.Patterns.{Patterns, no_pattern, node_first, tree_var_first, forest_var_first, count, cells, variables_in}
-use Rattle.qs_pattern.specs.Rules.{Rule, IsAccepted, rule_cells, rule_variables, variables_behind}
+use Rattle.qs_pattern.specs.Rules.{UnmarkedRule, IsAcceptable, rule_cells, rule_variables, variables_behind}
 use Rattle.qs_check.specs.Cells.{written_rule, variables_among}
 use Rattle.qs_ruletext.specs.Reading.{joined}
 use Rattle.qs_check.specs.Causes.{Has17th, Has33rd, HasUnbound, IsFirstCause, left_too_long, right_too_long, too_many_cells, too_many_variables, unbound}
@@ -49,7 +49,7 @@ within_17th : (side : Patterns) (n : ℕ) → Has17th side n → n < cells side
 within_17th side n h = omega (arith, ap cells h.are, cells-joined h.front h.behind, some_cells h.behind h.more, h.cells_before)
 
 -- the cell at which a first cause applies is one of the rule's
-pub place_within : (rule : Rule) (c : Cause) (n : ℕ) → IsFirstCause rule c n → n < rule_cells rule
+pub place_within : (rule : UnmarkedRule) (c : Cause) (n : ℕ) → IsFirstCause rule c n → n < rule_cells rule
 place_within rule c n (left_too_long h) = omega (arith, within_17th rule.left n h)
 place_within rule c n (right_too_long {place = m} short h) = omega (arith, within_17th rule.right m h)
 place_within rule c n (too_many_cells short h) = omega arith
@@ -142,12 +142,12 @@ module _ (cs : List Head) where
   one_unbound : (left : List Var) (n m : ℕ) → HasUnbound cs left n → HasUnbound cs left m → n ≡ m
   one_unbound left n m h k = ⊎_elim (λ e. e) (λ o. absurd (⊎_elim (not_before_unbound left n m h k) (not_before_unbound left m n k h) o)) (cases_order n m)
 
-many_different : (rule : Rule) (n : ℕ) → Has33rd (written_rule rule) n → 32 < length (firsts (rule_variables rule))
+many_different : (rule : UnmarkedRule) (n : ℕ) → Has33rd (written_rule rule) n → 32 < length (firsts (rule_variables rule))
 many_different rule n h = subst (λ vs. 32 < length (firsts vs)) (variables-rule rule) (many (written_rule rule) n h)
 
 -- ---- one first cause
 
-pub one_cause : (rule : Rule) (c d : Cause) (i j : ℕ) → IsFirstCause rule c i → IsFirstCause rule d j → (c ≡ d) × (i ≡ j)
+pub one_cause : (rule : UnmarkedRule) (c d : Cause) (i j : ℕ) → IsFirstCause rule c i → IsFirstCause rule d j → (c ≡ d) × (i ≡ j)
 one_cause rule c d i j (left_too_long h) (left_too_long k) = (refl, one_17th rule.left i j h k)
 one_cause rule c d i j (left_too_long h) (right_too_long s k) = absurd (omega (arith, long_17th rule.left i h, s))
 one_cause rule c d i j (left_too_long h) (too_many_cells s k) = absurd (omega (arith, long_17th rule.left i h, s.left))
@@ -174,7 +174,7 @@ one_cause rule c d i j (unbound t e g h) (too_many_cells s k) = absurd (omega ar
 one_cause rule c d i j (unbound t e g h) (too_many_variables s f k) = absurd (omega (arith, many_different rule j k, g))
 one_cause rule c d i j (unbound t e g h) (unbound s f l k) = (refl, one_unbound (written_rule rule) (variables_in rule.left) i j h k)
 
-pub none_if_accepted : (rule : Rule) (c : Cause) (i : ℕ) → IsAccepted rule → IsFirstCause rule c i → ⊥
+pub none_if_accepted : (rule : UnmarkedRule) (c : Cause) (i : ℕ) → IsAcceptable rule → IsFirstCause rule c i → ⊥
 none_if_accepted rule c i ok (left_too_long h) = omega (arith, long_17th rule.left i h, ok.left.at_most)
 none_if_accepted rule c i ok (right_too_long {place = n} s h) = omega (arith, long_17th rule.right n h, ok.right.at_most)
 none_if_accepted rule c i ok (too_many_cells s h) = omega (arith, ok.cells)

@@ -12,12 +12,13 @@ use Rattle.qs_pattern.specs.declared.pattern.Head.{Head}
 use Rattle.qs_pattern.specs.declared.pattern.Head.TheVariants as head
 use Rattle.qs_pattern.specs.Letters.{is_variable_letter}
 use Rattle.qs_pattern.specs.Patterns.{Patterns, no_pattern, node_first, tree_var_first, forest_var_first, count, cells, AreInClass, IsHeadInClass, NoForestAtTop}
-use Rattle.qs_pattern.specs.Conditions.{Condition, Conditions, no_condition, condition_first, condition_cells, conditions_cells, IsConditionInClass, AreConditionsInClass, HasEnoughMembers, HaveEnoughMembers}
-use Rattle.qs_pattern.specs.Rules.{Rule, rule_cells, cells_if_given, IsInClassIfGiven, HasEnoughMembersIfGiven}
+use Rattle.qs_pattern.specs.Conditions.{Condition, Conditions, no_condition, condition_first, condition_cells, IsConditionInClass, EachListOfAll, HasEnoughMembers, HaveEnoughMembers}
+use Rattle.qs_pattern.specs.Rules.{UnmarkedRule, rule_cells, cells_if_given, IsInClassIfGiven, HasEnoughMembersIfGiven}
 use Rattle.qs_ruletext.specs.WrittenRules.{WrittenRule}
-use Rattle.qs_ruletext.specs.Reading.{IsVariableOf, IsHeadOf, joined, ReadsTree, reads_node, reads_tree_variable, ReadsSubtrees, no_parentheses, nothing_inside, list_inside, ReadsList, reads_list, ReadsMoreItems, no_more_items, one_more_item, ReadsItem, reads_tree, reads_forest_variable, ReadsMoreTrees, no_more_trees, one_more_tree, ReadsSide, reads_side, any_of, all_of, ReadsCond, reads_cond, ReadsMoreConjs, no_more_conjs, one_more_conj, ReadsConj, reads_conj, ReadsMoreNegs, no_more_negs, one_more_neg, ReadsNeg, not_negated, reads_negated, ReadsPrim, reads_group, reads_within, reads_outside}
+use Rattle.qs_ruletext.specs.Reading.{IsVariableOf, IsHeadOf, joined, ReadsTree, reads_node, reads_tree_variable, ReadsSubtrees, no_parentheses, nothing_inside, list_inside, ReadsList, reads_list, ReadsMoreItems, no_more_items, one_more_item, ReadsItem, reads_tree, reads_forest_variable, ReadsMoreTrees, no_more_trees, one_more_tree, ReadsSide, reads_side, any_of, all_of, ReadsCond, reads_cond, ReadsMoreConjs, no_more_conjs, one_more_conj, ReadsConj, reads_conj, ReadsMoreNegs, no_more_negs, one_more_neg, ReadsNeg, not_negated, reads_negated, ReadsPrim, reads_group, reads_compared}
 use Rattle.qs_ruletext.specs.Rules.{is_cell, cell_bytes, ReadsCondIfGiven, no_cond, some_cond, ReadsRule, reads_rule, ReadsWrittenRule}
 use Rattle.qs_check.specs.Checking.{CanBeChecked}
+use Rattle.qs_check.proofs.Written.{conditions_cells}
 use Rattle.qs_check.proofs.Limits.{cells-joined, count-joined}
 
 -- ---- tokens that are cells
@@ -224,7 +225,7 @@ module _ (names : List (List ℕ)) (text : List ℕ) where
     cells_are : many ts ≡ condition_cells c + many rest
 
   record GivenConditions (ts : List Token) (cs : Conditions) (rest : List Token) : Type 0 where
-    class : AreConditionsInClass cs
+    class : EachListOfAll AreInClass cs
     enough : HaveEnoughMembers cs
     cells_are : many ts ≡ conditions_cells cs + many rest
 
@@ -273,11 +274,7 @@ module _ (names : List (List ℕ)) (text : List ℕ) where
     prim_given (reads_group {t = t} {u = u} {ts = ts} {rest = rest} i p j) =
         let g = cond_given p in
         record { class = g.class; enough = g.enough; cells_are = omega (arith, no_cell t ts (of_sort _ i), g.cells_are, no_cell u rest (of_sort _ j)) }
-    prim_given (reads_within {t = t} {middle = middle} a i b) =
-        let g = list_given a in
-        let h = list_given b in
-        record { class = (g.class, h.class); enough = tt; cells_are = omega (arith, g.cells_are, no_cell t middle (of_sort _ i), h.cells_are) }
-    prim_given (reads_outside {t = t} {middle = middle} a i b) =
+    prim_given (reads_compared {t = t} {middle = middle} a i b) =
         let g = list_given a in
         let h = list_given b in
         record { class = (g.class, h.class); enough = tt; cells_are = omega (arith, g.cells_are, no_cell t middle (of_sort _ i), h.cells_are) }
@@ -294,7 +291,7 @@ module _ (names : List (List ℕ)) (text : List ℕ) where
   if_given (some_cond {t = t} {ts = ts} i c) =
       let g = cond_given c in record { class = g.class; enough = g.enough; cells_are = no_cell t ts (of_sort _ i) ∙ g.cells_are }
 
-  record GivenRule (ts : List Token) (rule : Rule) (rest : List Token) : Type 0 where
+  record GivenRule (ts : List Token) (rule : UnmarkedRule) (rest : List Token) : Type 0 where
     left_some : 1 ≤ count rule.left
     right_some : 1 ≤ count rule.right
     left_top : NoForestAtTop rule.left
@@ -305,7 +302,7 @@ module _ (names : List (List ℕ)) (text : List ℕ) where
     enough : HasEnoughMembersIfGiven rule.condition
     cells_are : many ts ≡ rule_cells rule + many rest
 
-  rule_given : {ts rest : List Token} {rule : Rule} → ReadsRule names text ts rule rest → GivenRule ts rule rest
+  rule_given : {ts rest : List Token} {rule : UnmarkedRule} → ReadsRule names text ts rule rest → GivenRule ts rule rest
   rule_given (reads_rule {t = t} {u = u} {middle = middle} {rest = rest} l i r c j) =
       let a = side_given l in
       let b = side_given r in

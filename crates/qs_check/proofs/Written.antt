@@ -2,15 +2,26 @@
 use Rattle.std.proofs.Common.{◌≡◌, ◌⊎◌, inl, inr, ℕ, ◌+◌, ◌<◌, ◌≤◌, List, [], ◌∷◌, ◌++◌, length, drop, get_or, Option, Some, None, refl, sym, ◌∙◌, ap, arith, append_assoc, append-nil, length-append, Global}
 use Rattle.std.specs.declared.vec.Vec.{Vec}
 use Rattle.std.proofs.lemmas.List.{drop_more, drop_all}
+use Rattle.qs_pattern.specs.declared.variable.Var.{Var}
 use Rattle.qs_pattern.specs.declared.pattern.Head.{Head}
 use Rattle.qs_pattern.specs.declared.pattern.Pattern.{Pattern, Node, Node', Tree, Forest}
 use Rattle.qs_pattern.specs.declared.condition.Cond.{Cond, All, Any}
 use Rattle.qs_pattern.specs.Patterns.{Patterns, no_pattern, node_first, tree_var_first, forest_var_first, pattern_before, patterns, one_pattern, cells, head_variables, variables_in}
-use Rattle.qs_pattern.specs.Conditions.{Condition, Conditions, within, outside, negated, all, any, no_condition, condition_first, condition_of, conditions, condition_cells, conditions_cells, condition_variables, conditions_variables}
-use Rattle.qs_pattern.specs.Rules.{Rule, rule_cells, rule_variables, cells_if_given, variables_if_given}
+use Rattle.qs_pattern.specs.Conditions.{Condition, Conditions, compared, negated, combined, no_condition, condition_first, condition_of, conditions, over_all_lists, condition_cells, condition_variables}
+use Rattle.qs_pattern.specs.Rules.{UnmarkedRule, rule_cells, rule_variables, cells_if_given, variables_if_given}
 use Rattle.qs_pattern.proofs.PatternLemmas.{pattern-Node}
 use Rattle.qs_pattern.proofs.ConditionLemmas.{condition-All, condition-Any}
-use Rattle.qs_check.specs.Cells.{written, written_condition, written_conditions, written_if_given, written_rule, variables_among}
+use Rattle.qs_check.specs.Cells.{written, written_condition, written_if_given, written_rule, variables_among}
+
+-- of several conditions
+abbrev pub written_conditions : Conditions → List Head
+written_conditions cs = over_all_lists [] (λ hs gs. hs ++ gs) written cs
+
+abbrev pub conditions_cells : Conditions → ℕ
+conditions_cells cs = over_all_lists 0 (λ m n. m + n) cells cs
+
+abbrev conditions_variables : Conditions → List Var
+conditions_variables cs = over_all_lists [] (λ vs ws. vs ++ ws) variables_in cs
 
 written-before : (p : Pattern) (us : Patterns) → written (pattern_before p us) ≡ written (one_pattern p) ++ written us
 written-before (Node' h shape kids) us = ap (λ cs. h ∷ (cs ++ written us)) (sym (append-nil _))
@@ -66,11 +77,9 @@ length-written (forest_var_first v behind) = omega (arith, length-written behind
 
 mutual
   length-condition : (c : Condition) → length (written_condition c) ≡ condition_cells c
-  length-condition (within a b) = omega (arith, length-append (written a) (written b), length-written a, length-written b)
-  length-condition (outside a b) = omega (arith, length-append (written a) (written b), length-written a, length-written b)
+  length-condition (compared word a b) = omega (arith, length-append (written a) (written b), length-written a, length-written b)
   length-condition (negated c) = length-condition c
-  length-condition (all cs) = length-conditions cs
-  length-condition (any cs) = length-conditions cs
+  length-condition (combined word cs) = length-conditions cs
 
   length-conditions : (cs : Conditions) → length (written_conditions cs) ≡ conditions_cells cs
   length-conditions no_condition = refl
@@ -80,7 +89,7 @@ length-if_given : (o : Option Condition) → length (written_if_given o) ≡ cel
 length-if_given None = refl
 length-if_given (Some c) = length-condition c
 
-pub length-rule : (rule : Rule) → length (written_rule rule) ≡ rule_cells rule
+pub length-rule : (rule : UnmarkedRule) → length (written_rule rule) ≡ rule_cells rule
 length-rule rule =
     omega (
       arith,
@@ -109,11 +118,9 @@ both-lists a b = variables_among-append (written a) (written b) ∙ (λ i. varia
 
 mutual
   variables-condition : (c : Condition) → variables_among (written_condition c) ≡ condition_variables c
-  variables-condition (within a b) = both-lists a b
-  variables-condition (outside a b) = both-lists a b
+  variables-condition (compared word a b) = both-lists a b
   variables-condition (negated c) = variables-condition c
-  variables-condition (all cs) = variables-conditions cs
-  variables-condition (any cs) = variables-conditions cs
+  variables-condition (combined word cs) = variables-conditions cs
 
   variables-conditions : (cs : Conditions) → variables_among (written_conditions cs) ≡ conditions_variables cs
   variables-conditions no_condition = refl
@@ -124,7 +131,7 @@ variables-if_given : (o : Option Condition) → variables_among (written_if_give
 variables-if_given None = refl
 variables-if_given (Some c) = variables-condition c
 
-pub variables-rule : (rule : Rule) → variables_among (written_rule rule) ≡ rule_variables rule
+pub variables-rule : (rule : UnmarkedRule) → variables_among (written_rule rule) ≡ rule_variables rule
 variables-rule rule =
     variables_among-append (written rule.left) (written rule.right ++ written_if_given rule.condition)
     ∙ (λ i. variables-written rule.left i ++ (variables_among-append (written rule.right) (written_if_given rule.condition) i))

@@ -5,8 +5,8 @@ use Rattle.qs_pattern.specs.declared.variable.Var.{Var}
 use Rattle.qs_pattern.specs.declared.pattern.Head.{Head}
 use Rattle.qs_pattern.specs.declared.pattern.Head.TheVariants as head
 use Rattle.qs_pattern.specs.Patterns.{Patterns, no_pattern, node_first, tree_var_first, forest_var_first, head_variables}
-use Rattle.qs_pattern.specs.Conditions.{Condition, Conditions, within, outside, negated, all, any, no_condition, condition_first}
-use Rattle.qs_pattern.specs.Rules.{Rule}
+use Rattle.qs_pattern.specs.Conditions.{Condition, over_lists}
+use Rattle.qs_pattern.specs.Rules.{UnmarkedRule}
 
 -- A cell is what a head can be, a label or a variable. The cells of a node are its head and then those of the patterns
 -- below it.
@@ -17,24 +17,15 @@ written (tree_var_first v behind) = head.Var v ∷ written behind
 written (forest_var_first v behind) = head.Var v ∷ written behind
 
 -- Those of a condition: of each comparison the first list's and then the second's, comparison by comparison.
-abbrev mutual
-  pub written_condition : Condition → List Head
-  written_condition (within a b) = written a ++ written b
-  written_condition (outside a b) = written a ++ written b
-  written_condition (negated c) = written_condition c
-  written_condition (all cs) = written_conditions cs
-  written_condition (any cs) = written_conditions cs
-
-  pub written_conditions : Conditions → List Head
-  written_conditions no_condition = []
-  written_conditions (condition_first c cs) = written_condition c ++ written_conditions cs
+abbrev pub written_condition : Condition → List Head
+written_condition c = over_lists [] (λ hs gs. hs ++ gs) written c
 
 abbrev pub written_if_given : Option Condition → List Head
 written_if_given None = []
 written_if_given (Some c) = written_condition c
 
 -- Those of a rule: of the left side, of the right side, and of the condition.
-abbrev pub written_rule : Rule → List Head
+abbrev pub written_rule : UnmarkedRule → List Head
 written_rule rule = written rule.left ++ (written rule.right ++ written_if_given rule.condition)
 
 -- The variables among cells, in order, with repetitions.

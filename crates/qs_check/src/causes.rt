@@ -2,6 +2,7 @@
 
 ghost use Rattle.std.specs.Prelude.{◌≡◌, ◌≤◌, length, IfOk, MatchOption};
 ghost use Rattle.qs_tree.specs.Lists.{◌∈◌};
+ghost use Rattle.qs_pattern.specs.Limits.{most_patterns, most_variables};
 ghost use Rattle.qs_pattern.specs.Variables.{firsts};
 ghost use Rattle.qs_pattern.specs.Patterns.{patterns, count, head_variables};
 ghost use Rattle.qs_check.specs.Cells.{variables_among};
@@ -13,7 +14,7 @@ use std::alloc::{AllocError, Global};
 
 /// The number, among the side's cells, of the root of its 17th tree. None where there are at most 16 trees.
 pub fn root_of_17th(alloc: Global, side: &[Pattern]) -> Result<Option<usize>, AllocError>
-    ensures { IfOk result (λ o. MatchOption o (count (patterns side.now) ≤ 16) (λ place. Has17th (patterns side.now) place)) }
+    ensures { IfOk result (λ o. MatchOption o (count (patterns side.now) ≤ most_patterns) (λ place. Has17th (patterns side.now) place)) }
 {
     if side.len() <= 16 {
         return Ok(None);
@@ -40,7 +41,7 @@ fn new_variable(cell: Head, known: &[Var]) -> Option<Var>
 
 /// The number of the cell at which the 33rd different variable occurs first. None where there are at most 32.
 pub fn first_of_33rd(alloc: Global, cells: &[Head]) -> Result<Option<usize>, AllocError>
-    ensures { IfOk result (λ o. MatchOption o (length (firsts (variables_among cells.now)) ≤ 32) (λ place. Has33rd cells.now place)) }
+    ensures { IfOk result (λ o. MatchOption o (length (firsts (variables_among cells.now)) ≤ most_variables) (λ place. Has33rd cells.now place)) }
 {
     let mut seen = Vec::new(alloc);
     for (place, cell) in cells.iter().enumerate() {

@@ -1,7 +1,7 @@
 //! Accepted rules, and the first cause why a rule isn't accepted.
 
 ghost use Rattle.std.specs.Prelude.{◌≡◌, IfOk, IfErr, MatchOption};
-ghost use Rattle.qs_pattern.specs.Rules.{IsAccepted};
+ghost use Rattle.qs_pattern.specs.Rules.{IsAcceptable, IsAccepted, marked};
 ghost use Rattle.qs_check.specs.Causes.{IsFirstCause};
 ghost use Rattle.qs_check.specs.Checking.{CanBeChecked, EndsWith};
 
@@ -46,7 +46,7 @@ impl<T: Drop> From<AllocFailed<T>> for CheckEnd {
 // The first cause why the rule isn't accepted, and the number of its cell. None where the rule is accepted.
 fn first_cause(alloc: Global, raw: &RawRule) -> Result<Option<(Cause, usize)>, AllocError>
     requires { CanBeChecked raw.now }
-    ensures { IfOk result (λ o. MatchOption o (IsAccepted raw.now.rule) (λ p. IsFirstCause raw.now.rule p.0 p.1)) }
+    ensures { IfOk result (λ o. MatchOption o (IsAcceptable raw.now.rule) (λ p. IsFirstCause raw.now.rule p.0 p.1)) }
 {
     if let Some(place) = root_of_17th(alloc, &raw.left)? {
         return Ok(Some((Cause::SideTooLong, place)));
@@ -72,10 +72,10 @@ fn first_cause(alloc: Global, raw: &RawRule) -> Result<Option<(Cause, usize)>, A
 /// The rule that was read, where it is accepted; else the first cause why it isn't, and the byte at which that cause
 /// applies: `SideTooLong` at the root of a side's 17th tree, the left side first; `TooManyCells` at the 257th label or
 /// variable; `TooManyVariables` where the 33rd different variable occurs first; `Unbound` at the first variable that isn't
-/// in the left side. A rule that isn't accepted is dropped.
-pub fn check(alloc: Global, raw: RawRule) -> Result<Rule, CheckEnd>
+/// in the left side. The rule has the mark `unique`. One that isn't accepted is dropped.
+pub fn check(alloc: Global, raw: RawRule, unique: bool) -> Result<Rule, CheckEnd>
     requires { CanBeChecked raw }
-    ensures rule { IfOk result (λ rule. rule ≡ raw.rule) }
+    ensures rule { IfOk result (λ rule. rule ≡ marked unique raw.rule) }
     ensures accepted { IfOk result IsAccepted }
     ensures refused { IfErr result (EndsWith raw) }
 {
@@ -91,5 +91,5 @@ pub fn check(alloc: Global, raw: RawRule) -> Result<Rule, CheckEnd>
         cond,
         ..
     } = raw;
-    Ok(Rule::new(alloc, left, right, cond))
+    Ok(Rule::new(alloc, left, right, cond, unique))
 }

@@ -18,10 +18,10 @@ use Rattle.qs_pattern.specs.Variables.{firsts}
 use Rattle.qs_pattern.specs.Patterns.{Patterns, no_pattern, node_first, tree_var_first, forest_var_first, count, head_variables, variables_in, IsHeadInClass, AreInClass}
 use Rattle.qs_pattern.specs.Substitutions.{Substitution, variables_of, IsOfClass, forest_length, forest_lengths}
 use Rattle.qs_pattern.specs.Instances.{inst, IsCovered, IsMatch}
-use Rattle.qs_pattern.specs.Conditions.{Condition, Conditions, within, outside, negated, all, any, no_condition, condition_first, HoldsIfGiven, condition_variables, conditions_variables, IsConditionInClass, AreConditionsInClass, IsConditionCovered}
-use Rattle.qs_pattern.specs.Rules.{Rule, IsAccepted, variables_if_given, IsInClassIfGiven, variables_behind}
+use Rattle.qs_pattern.specs.Conditions.{Condition, Conditions, compared, negated, combined, no_condition, condition_first, HoldsIfGiven, EachListOfAll, condition_variables, IsConditionInClass, IsConditionCovered}
+use Rattle.qs_pattern.specs.Rules.{Rule, unmarked, IsAccepted, variables_if_given, IsInClassIfGiven, variables_behind}
 use Rattle.qs_pattern.proofs.MatchLemmas.{matched_value}
-use Rattle.qs_pattern.proofs.Covering.{all_covered, condition_covered}
+use Rattle.qs_pattern.proofs.Covering.{all_covered, condition_covered, conditions_variables}
 use Rattle.qs_graph.specs.Graphs.{Arc, QGraph, Leads, IsPath, arcs_at, trees_on}
 use Rattle.qs_graph.specs.Chains.{chain, with_chain}
 use Rattle.qs_graph.proofs.Lines.{member-slice_get}
@@ -42,7 +42,7 @@ pub record IsBound (rule : Rule) : Type 0 where
   pub left : AreInClass rule.left
   pub right : AreInClass rule.right
   pub condition : IsInClassIfGiven rule.condition
-  pub bound : (v : Var) → v ∈ variables_behind rule → v ∈ variables_in rule.left
+  pub bound : (v : Var) → v ∈ variables_behind (unmarked rule) → v ∈ variables_in rule.left
 
 pub accepted_bound : (rule : Rule) → IsAccepted rule → IsBound rule
 accepted_bound rule ok = record { left = ok.left.in_class; right = ok.right.in_class; condition = ok.condition; bound = ok.bound }
@@ -77,11 +77,9 @@ module _ (f : ℕ → ℕ) where
 
   mutual
     condition_variables_renamed : (c : Condition) → condition_variables (renamed_condition f c) ≡ condition_variables c
-    condition_variables_renamed (within a b) = λ i. variables_renamed a i ++ variables_renamed b i
-    condition_variables_renamed (outside a b) = λ i. variables_renamed a i ++ variables_renamed b i
+    condition_variables_renamed (compared word a b) = λ i. variables_renamed a i ++ variables_renamed b i
     condition_variables_renamed (negated c) = condition_variables_renamed c
-    condition_variables_renamed (all cs) = conditions_variables_renamed cs
-    condition_variables_renamed (any cs) = conditions_variables_renamed cs
+    condition_variables_renamed (combined word cs) = conditions_variables_renamed cs
 
     conditions_variables_renamed : (cs : Conditions) → conditions_variables (renamed_conditions f cs) ≡ conditions_variables cs
     conditions_variables_renamed no_condition = refl
@@ -91,7 +89,7 @@ module _ (f : ℕ → ℕ) where
   given_variables_renamed None = refl
   given_variables_renamed (Some c) = condition_variables_renamed c
 
-  behind_renamed : (rule : Rule) → variables_behind (renamed_rule f rule) ≡ variables_behind rule
+  behind_renamed : (rule : Rule) → variables_behind (unmarked (renamed_rule f rule)) ≡ variables_behind (unmarked rule)
   behind_renamed rule = λ i. variables_renamed rule.right i ++ given_variables_renamed rule.condition i
 
   -- so do their places
@@ -107,13 +105,11 @@ module _ (f : ℕ → ℕ) where
 
   mutual
     condition_in_class : (c : Condition) → IsConditionInClass c → IsConditionInClass (renamed_condition f c)
-    condition_in_class (within a b) k = (in_class a k.0, in_class b k.1)
-    condition_in_class (outside a b) k = (in_class a k.0, in_class b k.1)
+    condition_in_class (compared word a b) k = (in_class a k.0, in_class b k.1)
     condition_in_class (negated c) k = condition_in_class c k
-    condition_in_class (all cs) k = conditions_in_class cs k
-    condition_in_class (any cs) k = conditions_in_class cs k
+    condition_in_class (combined word cs) k = conditions_in_class cs k
 
-    conditions_in_class : (cs : Conditions) → AreConditionsInClass cs → AreConditionsInClass (renamed_conditions f cs)
+    conditions_in_class : (cs : Conditions) → EachListOfAll AreInClass cs → EachListOfAll AreInClass (renamed_conditions f cs)
     conditions_in_class no_condition k = tt
     conditions_in_class (condition_first c cs) k = (condition_in_class c k.0, conditions_in_class cs k.1)
 

@@ -14,7 +14,7 @@ use Rattle.qs_pattern.specs.Variables.{same_var}
 use Rattle.qs_pattern.specs.Patterns.{Patterns, no_pattern, node_first, tree_var_first, forest_var_first}
 use Rattle.qs_pattern.specs.Substitutions.{Substitution, value_of}
 use Rattle.qs_pattern.specs.Instances.{label_in, tree_in, trees_in, label_of, inst, IsLabel, IsHeadCovered, IsCovered}
-use Rattle.qs_pattern.specs.Conditions.{Condition, Conditions, within, outside, negated, all, any, no_condition, condition_first, Holds, AllHold, SomeHolds, IsConditionCovered, AreConditionsCovered}
+use Rattle.qs_pattern.specs.Conditions.{Comparing, within, outside, Compares, all, any, Condition, Conditions, compared, negated, combined, no_condition, condition_first, Holds, AllHold, SomeHolds, IsConditionCovered, AreConditionsCovered}
 use Rattle.qs_clean.specs.Renaming.{IsRenaming, renamed_label, renamed_forest, renamed_tree, renamed_head, renamed_patterns, renamed_condition, renamed_conditions, renamed_value, renamed_substitution}
 use Rattle.qs_clean.proofs.ArcLists.{in_map, to_map}
 use Rattle.qs_clean.proofs.RenamingUndone.{tree_undone}
@@ -103,26 +103,24 @@ module _ (f g : ℕ → ℕ) (is : IsRenaming f g) (s : Substitution) where
   abbrev undone : (t : Tree) → renamed_tree g (renamed_tree f t) ≡ t
   undone t = tree_undone f g is.back t
 
-  within_renamed : (a b : Patterns) → IsCovered s a → IsCovered s b → Holds (within a b) s ↔ Holds (within (renamed_patterns f a) (renamed_patterns f b)) renamed
-  within_renamed a b c d =
-      subst (λ (p : List Tree × List Tree). Holds (within a b) s ↔ ((t : Tree) → t ∈ p.0 → t ∈ p.1))
-      (λ i. (sym (inst_renamed f s a c) i, sym (inst_renamed f s b d) i))
-      (within_map (renamed_tree f) (renamed_tree g) undone (inst s a) (inst s b))
+  compared_map : (word : Comparing) (ts us : List Tree) → Compares word ts us ↔ Compares word (map (renamed_tree f) ts) (map (renamed_tree f) us)
+  compared_map within ts us = within_map (renamed_tree f) (renamed_tree g) undone ts us
+  compared_map outside ts us = outside_map (renamed_tree f) (renamed_tree g) undone ts us
 
-  outside_renamed : (a b : Patterns) → IsCovered s a → IsCovered s b → Holds (outside a b) s ↔ Holds (outside (renamed_patterns f a) (renamed_patterns f b)) renamed
-  outside_renamed a b c d =
-      subst (λ (p : List Tree × List Tree). Holds (outside a b) s ↔ ((t : Tree) → t ∈ p.0 → t ∈ p.1 → ⊥))
+  compared_renamed : (word : Comparing) (a b : Patterns) → IsCovered s a → IsCovered s b
+      → Holds (compared word a b) s ↔ Holds (compared word (renamed_patterns f a) (renamed_patterns f b)) renamed
+  compared_renamed word a b c d =
+      subst (λ (p : List Tree × List Tree). Holds (compared word a b) s ↔ Compares word p.0 p.1)
       (λ i. (sym (inst_renamed f s a c) i, sym (inst_renamed f s b d) i))
-      (outside_map (renamed_tree f) (renamed_tree g) undone (inst s a) (inst s b))
+      (compared_map word (inst s a) (inst s b))
 
   -- a condition holds exactly where it holds under the other numbers
   mutual
     pub holds_renamed : (c : Condition) → IsConditionCovered s c → Holds c s ↔ Holds (renamed_condition f c) renamed
-    holds_renamed (within a b) k = within_renamed a b k.0 k.1
-    holds_renamed (outside a b) k = outside_renamed a b k.0 k.1
+    holds_renamed (compared word a b) k = compared_renamed word a b k.0 k.1
     holds_renamed (negated c) k = let h = holds_renamed c k in ((λ no yes. no (h.1 yes)), (λ no yes. no (h.0 yes)))
-    holds_renamed (all cs) k = all_renamed cs k
-    holds_renamed (any cs) k = some_renamed cs k
+    holds_renamed (combined all cs) k = all_renamed cs k
+    holds_renamed (combined any cs) k = some_renamed cs k
 
     all_renamed : (cs : Conditions) → AreConditionsCovered s cs → AllHold cs s ↔ AllHold (renamed_conditions f cs) renamed
     all_renamed no_condition k = ((λ _. tt), (λ _. tt))

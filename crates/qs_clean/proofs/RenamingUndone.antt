@@ -10,7 +10,7 @@ use Rattle.qs_pattern.specs.declared.subst.Value.{Value}
 use Rattle.qs_pattern.specs.declared.subst.Value.TheVariants as value
 use Rattle.qs_pattern.specs.Patterns.{Patterns, no_pattern, node_first, tree_var_first, forest_var_first}
 use Rattle.qs_pattern.specs.Substitutions.{Substitution}
-use Rattle.qs_pattern.specs.Conditions.{Condition, Conditions, within, outside, negated, all, any, no_condition, condition_first}
+use Rattle.qs_pattern.specs.Conditions.{Condition, Conditions, compared, negated, combined, no_condition, condition_first}
 use Rattle.qs_pattern.specs.Rules.{Rule}
 use Rattle.qs_graph.specs.Graphs.{Arc, QGraph}
 use Rattle.qs_firing.specs.Firings.{Firing}
@@ -44,11 +44,9 @@ module _ (f g : ℕ → ℕ) (undone : (n : ℕ) → g (f n) ≡ n) where
 
   mutual
     condition_undone : (c : Condition) → renamed_condition g (renamed_condition f c) ≡ c
-    condition_undone (within a b) = λ i. within (patterns_undone a i) (patterns_undone b i)
-    condition_undone (outside a b) = λ i. outside (patterns_undone a i) (patterns_undone b i)
+    condition_undone (compared word a b) = λ i. compared word (patterns_undone a i) (patterns_undone b i)
     condition_undone (negated c) = λ i. negated (condition_undone c i)
-    condition_undone (all cs) = λ i. all (conditions_undone cs i)
-    condition_undone (any cs) = λ i. any (conditions_undone cs i)
+    condition_undone (combined word cs) = λ i. combined word (conditions_undone cs i)
 
     conditions_undone : (cs : Conditions) → renamed_conditions g (renamed_conditions f cs) ≡ cs
     conditions_undone no_condition = refl
@@ -63,6 +61,7 @@ module _ (f g : ℕ → ℕ) (undone : (n : ℕ) → g (f n) ≡ n) where
     left = patterns_undone rule.left i;
     right = patterns_undone rule.right i;
     condition = given_undone rule.condition i;
+    unique = rule.unique;
   }
 
   pub rules_undone : (R : List Rule) → map (renamed_rule g) (map (renamed_rule f) R) ≡ R

@@ -1,5 +1,5 @@
 -- Four small grammars of rules without variables, with what they do worked out.
-use Rattle.std.specs.Prelude.{ℕ, List, [], ◌∷◌, None}
+use Rattle.std.specs.Prelude.{ℕ, false, List, [], ◌∷◌, None}
 use Rattle.qs_tree.specs.declared.cell.Label.{Label}
 use Rattle.qs_tree.specs.Trees.{Tree, node}
 use Rattle.qs_pattern.specs.declared.pattern.Head.TheVariants as head
@@ -35,7 +35,7 @@ side [] = no_pattern
 side (l ∷ ls) = node_first (head.Label l) no_pattern (side ls)
 
 abbrev pub rule : List Label → List Label → Rule
-rule left right = record { left = side left; right = side right; condition = None }
+rule left right = record { left = side left; right = side right; condition = None; unique = false }
 
 -- An arc, and a firing that is done, of the rule with this number on this path.
 abbrev pub arc : ℕ → Label → ℕ → Arc

@@ -11,7 +11,7 @@ use Rattle.qs_pattern.specs.declared.subst.Value.{Value}
 use Rattle.qs_pattern.specs.declared.subst.Value.TheVariants as value
 use Rattle.qs_pattern.specs.Patterns.{Patterns, no_pattern, node_first, tree_var_first, forest_var_first}
 use Rattle.qs_pattern.specs.Substitutions.{Substitution}
-use Rattle.qs_pattern.specs.Conditions.{Condition, Conditions, within, outside, negated, all, any, no_condition, condition_first}
+use Rattle.qs_pattern.specs.Conditions.{Condition, Conditions, compared, negated, combined, no_condition, condition_first}
 use Rattle.qs_pattern.specs.Rules.{Rule}
 use Rattle.qs_graph.specs.Graphs.{Arc, QGraph}
 use Rattle.qs_firing.specs.Firings.{Firing}
@@ -50,22 +50,21 @@ renamed_patterns f (forest_var_first v behind) = forest_var_first v (renamed_pat
 -- A condition has its patterns written so.
 abbrev mutual
   pub renamed_condition : (ℕ → ℕ) → Condition → Condition
-  renamed_condition f (within a b) = within (renamed_patterns f a) (renamed_patterns f b)
-  renamed_condition f (outside a b) = outside (renamed_patterns f a) (renamed_patterns f b)
+  renamed_condition f (compared word a b) = compared word (renamed_patterns f a) (renamed_patterns f b)
   renamed_condition f (negated c) = negated (renamed_condition f c)
-  renamed_condition f (all cs) = all (renamed_conditions f cs)
-  renamed_condition f (any cs) = any (renamed_conditions f cs)
+  renamed_condition f (combined word cs) = combined word (renamed_conditions f cs)
 
   pub renamed_conditions : (ℕ → ℕ) → Conditions → Conditions
   renamed_conditions f no_condition = no_condition
   renamed_conditions f (condition_first c cs) = condition_first (renamed_condition f c) (renamed_conditions f cs)
 
--- A rule has its sides and its condition written so.
+-- A rule has its sides and its condition written so, and keeps its mark.
 abbrev pub renamed_rule : (ℕ → ℕ) → Rule → Rule
 renamed_rule f rule = record {
   left = renamed_patterns f rule.left;
   right = renamed_patterns f rule.right;
   condition = option_map (renamed_condition f) rule.condition;
+  unique = rule.unique;
 }
 
 -- A graph has the trees on its arcs written so; its nodes and its arcs stay.

@@ -4,14 +4,14 @@ use Rattle.std.specs.List.{All}
 use Rattle.std.proofs.lemmas.List.{map-append, append-nil, append_assoc}
 use Rattle.std.proofs.lemmas.List.Elements.{All-nil, All-cons, All-push, All-head, All-tail, All-append}
 use Rattle.std.proofs.lemmas.Grind.{flat_map-append}
-use Rattle.qs_pattern.specs.Rules.{Rule, IsAccepted}
+use Rattle.qs_pattern.specs.Rules.{Rule, IsAcceptable, IsAccepted}
 use Rattle.qs_ruletext.specs.WrittenRules.{WrittenRule}
 use Rattle.qs_check.specs.Checking.{CanBeChecked, EndsWith}
 use Rattle.qs_check.specs.declared.checking.CheckEnd.{CheckEnd}
 use Rattle.qs_check.specs.declared.checking.CheckEnd.TheVariants.{Refused, Memory}
 use Rattle.qs_deck.specs.WrittenDecks.{WrittenSystem, rules_of}
 use Rattle.qs_deck.specs.declared.system.System.{System}
-use Rattle.qs_deck.specs.Decks.{Grammar, grammar_of, meaning_of}
+use Rattle.qs_deck.specs.Decks.{Grammar, rule_of, grammar_of, meaning_of}
 use Rattle.qs_deck.specs.Checked.{AreAccepted, IsFirstRefused}
 
 -- a system's rules are fewer than a number of rules can be
@@ -32,26 +32,26 @@ pub record AreCheckedSoFar (raws : List WrittenRule) (rules : List Rule) (rest :
   pub front : List WrittenRule
   pub are : raws ≡ front ++ rest
   pub accepted : AreAccepted front
-  pub rules_are : rules ≡ map (λ (r : WrittenRule). r.rule) front
+  pub rules_are : rules ≡ map rule_of front
   pub can : All CanBeChecked rest
 
 pub checked_first : (raws : List WrittenRule) (rules : List Rule) (rest : List WrittenRule) → rules ≡ [] → rest ≡ raws → All CanBeChecked raws → AreCheckedSoFar raws rules rest
 checked_first raws rules rest n e can = record {
   front = [];
   are = sym e;
-  accepted = All-nil (λ r. IsAccepted r.rule);
+  accepted = All-nil (λ r. IsAcceptable r.rule);
   rules_are = n;
   can = subst (All CanBeChecked) (sym e) can;
 }
 
 -- one more is accepted
-pub checked_next : (raws : List WrittenRule) (rules new : List Rule) (left rest : List WrittenRule) (raw : WrittenRule) (rule : Rule) → left ≡ raw ∷ rest → rule ≡ raw.rule → IsAccepted rule → new ≡ rules ++ rule ∷ []
+pub checked_next : (raws : List WrittenRule) (rules new : List Rule) (left rest : List WrittenRule) (raw : WrittenRule) (rule : Rule) → left ≡ raw ∷ rest → rule ≡ rule_of raw → IsAccepted rule → new ≡ rules ++ rule ∷ []
     → AreCheckedSoFar raws rules left → AreCheckedSoFar raws new rest
 checked_next raws rules new left rest raw rule l e a n x = record {
   front = x.front ++ raw ∷ [];
   are = x.are ∙ ap (λ ys. x.front ++ ys) l ∙ sym (append_assoc x.front (raw ∷ []) rest);
-  accepted = All-push (λ r. IsAccepted r.rule) x.front raw x.accepted (subst IsAccepted e a);
-  rules_are = n ∙ ap (λ rs. rs ++ rule ∷ []) x.rules_are ∙ ap (λ r. map (λ (r : WrittenRule). r.rule) x.front ++ r ∷ []) e ∙ sym (map-append (λ (r : WrittenRule). r.rule) x.front (raw ∷ []));
+  accepted = All-push (λ r. IsAcceptable r.rule) x.front raw x.accepted (subst IsAccepted e a);
+  rules_are = n ∙ ap (λ rs. rs ++ rule ∷ []) x.rules_are ∙ ap (λ r. map rule_of x.front ++ r ∷ []) e ∙ sym (map-append rule_of x.front (raw ∷ []));
   can = All-tail CanBeChecked raw rest (subst (All CanBeChecked) l x.can);
 }
 
@@ -60,10 +60,10 @@ pub can_next : (raws : List WrittenRule) (rules : List Rule) (left rest : List W
 can_next raws rules left rest raw l x = All-head CanBeChecked raw rest (subst (All CanBeChecked) l x.can)
 
 -- all are accepted
-pub checked_all : (raws : List WrittenRule) (rules : List Rule) (left : List WrittenRule) → left ≡ [] → AreCheckedSoFar raws rules left → (rules ≡ map (λ (r : WrittenRule). r.rule) raws) × AreAccepted raws
+pub checked_all : (raws : List WrittenRule) (rules : List Rule) (left : List WrittenRule) → left ≡ [] → AreCheckedSoFar raws rules left → (rules ≡ map rule_of raws) × AreAccepted raws
 checked_all raws rules left l x =
     let are : raws ≡ x.front = x.are ∙ ap (λ ys. x.front ++ ys) l ∙ append-nil x.front in
-    (x.rules_are ∙ ap (map (λ (r : WrittenRule). r.rule)) (sym are), subst AreAccepted (sym are) x.accepted)
+    (x.rules_are ∙ ap (map rule_of) (sym are), subst AreAccepted (sym are) x.accepted)
 
 -- the next is refused
 pub refused_next : (raws : List WrittenRule) (rules : List Rule) (left rest : List WrittenRule) (raw : WrittenRule) (end : CheckEnd) → left ≡ raw ∷ rest → AreCheckedSoFar raws rules left → EndsWith raw end → IsFirstRefused raws end
@@ -91,7 +91,7 @@ pub systems_first : (systems : List WrittenSystem) (checked : List System) (rest
 systems_first systems checked rest n e can few = record {
   front = [];
   are = sym e;
-  accepted = All-nil (λ r. IsAccepted r.rule);
+  accepted = All-nil (λ r. IsAcceptable r.rule);
   grammars_are = ap (map grammar_of) n;
   can = subst (λ ss. All CanBeChecked (rules_of ss)) (sym e) can;
   few = subst (All HasFewRules) (sym e) few;
@@ -105,7 +105,7 @@ systems_next systems checked new left rest system next l e a n x = record {
   are = x.are ∙ ap (λ ys. x.front ++ ys) l ∙ sym (append_assoc x.front (system ∷ []) rest);
   accepted =
       subst AreAccepted (sym (flat_map-append (λ (s : WrittenSystem). s.rules) x.front (system ∷ [])))
-      (All-append (λ r. IsAccepted r.rule) (rules_of x.front) (rules_of (system ∷ [])) x.accepted (subst AreAccepted (sym (append-nil system.rules)) a));
+      (All-append (λ r. IsAcceptable r.rule) (rules_of x.front) (rules_of (system ∷ [])) x.accepted (subst AreAccepted (sym (append-nil system.rules)) a));
   grammars_are =
       ap (map grammar_of) n ∙ map-append grammar_of checked (next ∷ []) ∙ ap (λ gs. gs ++ grammar_of next ∷ []) x.grammars_are ∙ ap (λ g. map meaning_of x.front ++ g ∷ []) e
       ∙ sym (map-append meaning_of x.front (system ∷ []));
@@ -135,7 +135,7 @@ refused_system systems grammars left rest system (Refused cause at) l x first = 
   are =
       ap rules_of (x.are ∙ ap (λ ys. x.front ++ ys) l) ∙ flat_map-append (λ (s : WrittenSystem). s.rules) x.front (system ∷ rest) ∙ ap (λ rs. rules_of x.front ++ (rs ++ rules_of rest)) first.are
       ∙ ap (λ rs. rules_of x.front ++ rs) (append_assoc first.front (first.raw ∷ first.behind) (rules_of rest)) ∙ sym (append_assoc (rules_of x.front) first.front (first.raw ∷ (first.behind ++ rules_of rest)));
-  accepted = All-append (λ r. IsAccepted r.rule) (rules_of x.front) first.front x.accepted first.accepted;
+  accepted = All-append (λ r. IsAcceptable r.rule) (rules_of x.front) first.front x.accepted first.accepted;
   ends = first.ends;
 }
 refused_system systems grammars left rest system Memory l x first = tt

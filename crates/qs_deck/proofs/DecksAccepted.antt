@@ -10,7 +10,7 @@ use Rattle.qs_tree.specs.declared.cell.Label.{Label}
 use Rattle.qs_tree.specs.Lists.{◌∈◌}
 use Rattle.qs_tree.specs.Text.{name_of}
 use Rattle.qs_tree.proofs.Members.{from_append, from_map, in_map, in_flat_map}
-use Rattle.qs_pattern.specs.Rules.{Rule, IsAccepted}
+use Rattle.qs_pattern.specs.Rules.{Rule, IsAcceptable, IsAccepted}
 use Rattle.qs_ruletext.specs.WrittenRules.{WrittenRule}
 use Rattle.qs_ruletext.proofs.AtOnce.{at_once}
 use Rattle.qs_ruletext.proofs.ReadBack.{alone}
@@ -26,7 +26,7 @@ use Rattle.qs_graphtext.proofs.GraphNesting.{trees_height}
 use Rattle.qs_graphtext.proofs.LabelTexts.{labels_in_trees}
 use Rattle.qs_deck.specs.WrittenDecks.{WrittenSystem, WrittenDeck, rules_of}
 use Rattle.qs_deck.specs.Reading.{ReadsDeck}
-use Rattle.qs_deck.specs.Decks.{Grammar, meaning_of, IsDeckOf}
+use Rattle.qs_deck.specs.Decks.{Grammar, rule_of, meaning_of, IsDeckOf}
 use Rattle.qs_deck.specs.Texts.{deck_text}
 use Rattle.qs_deck.proofs.Meanings.{all_member}
 use Rattle.qs_deck.proofs.DecksReadBack.{ReadsBack, writable, deck_goes}
@@ -55,18 +55,18 @@ abbrev AreAccepted : List Grammar → Type 0
 AreAccepted grammars = (grammar : Grammar) → grammar ∈ grammars → (rule : Rule) → rule ∈ grammar.rules → IsAccepted rule
 
 -- those of the grammars that systems mean are, exactly where those of the systems are
-grammars_accepted : (systems : List WrittenSystem) → All (λ (raw : WrittenRule). IsAccepted raw.rule) (rules_of systems) → AreAccepted (map meaning_of systems)
+grammars_accepted : (systems : List WrittenSystem) → All (λ (raw : WrittenRule). IsAcceptable raw.rule) (rules_of systems) → AreAccepted (map meaning_of systems)
 grammars_accepted systems all =
     from_map meaning_of systems (λ (grammar : Grammar). (rule : Rule) → rule ∈ grammar.rules → IsAccepted rule)
-    (λ system i. from_map (λ (raw : WrittenRule). raw.rule) system.rules IsAccepted
-    (λ raw j. all_member (λ (r : WrittenRule). IsAccepted r.rule) (rules_of systems) raw all (in_flat_map (λ (s : WrittenSystem). s.rules) systems system raw i j)))
+    (λ system i. from_map rule_of system.rules IsAccepted
+    (λ raw j. all_member (λ (r : WrittenRule). IsAcceptable r.rule) (rules_of systems) raw all (in_flat_map (λ (s : WrittenSystem). s.rules) systems system raw i j)))
 
-systems_accepted : (systems : List WrittenSystem) → AreAccepted (map meaning_of systems) → All (λ (raw : WrittenRule). IsAccepted raw.rule) (rules_of systems)
+systems_accepted : (systems : List WrittenSystem) → AreAccepted (map meaning_of systems) → All (λ (raw : WrittenRule). IsAcceptable raw.rule) (rules_of systems)
 systems_accepted systems accepted =
-    all_if_each (λ (raw : WrittenRule). IsAccepted raw.rule) (rules_of systems)
+    all_if_each (λ (raw : WrittenRule). IsAcceptable raw.rule) (rules_of systems)
     (λ raw i.
     let found = from_systems systems raw i in
-    accepted (meaning_of found.0) (in_map meaning_of systems found.0 found.1) raw.rule (in_map (λ (r : WrittenRule). r.rule) found.0.rules raw found.2))
+    accepted (meaning_of found.0) (in_map meaning_of systems found.0 found.1) (rule_of raw) (in_map rule_of found.0.rules raw found.2))
 
 -- the trees of chains are those on the arcs of their graph
 pub trees_on_arcs : (chains : List WrittenChain) (G : QGraph) → G ≡ graph_of chains → map tree_on G.arcs ≡ trees_in chains

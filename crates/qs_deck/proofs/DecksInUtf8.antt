@@ -5,7 +5,7 @@ use Rattle.std.specs.List.{flat_map}
 use Rattle.std.proofs.lemmas.Str.{IsUtf8-append, IsUtf8-nil}
 use Rattle.qs_tree.specs.Lists.{◌∈◌}
 use Rattle.qs_tree.specs.Text.{name_of, label_text}
-use Rattle.qs_pattern.specs.Rules.{Rule}
+use Rattle.qs_pattern.specs.Rules.{Rule, unmarked}
 use Rattle.qs_ruletext.specs.Rules.{IsWellRead}
 use Rattle.qs_ruletext.specs.Written.{written}
 use Rattle.qs_ruletext.proofs.NamesInUtf8.{AreUtf8}
@@ -18,10 +18,10 @@ use Rattle.qs_deck.specs.Texts.{rule_line, grammar_text, deck_text}
 use Rattle.qs_deck.proofs.DecksReadBack.{IsWritableGrammar}
 
 module _ (names : List (List ℕ)) (utf8 : AreUtf8 names) (n : ℕ) where
-  rules_are : (rules : List Rule) → ((rule : Rule) → rule ∈ rules → IsWellRead n rule) → IsUtf8 (flat_map (rule_line names) rules)
+  rules_are : (rules : List Rule) → ((rule : Rule) → rule ∈ rules → IsWellRead n (unmarked rule)) → IsUtf8 (flat_map (rule_line names) rules)
   rules_are [] w = IsUtf8-nil
   rules_are (r ∷ rules) w =
-      IsUtf8-append (rule_line names r) (flat_map (rule_line names) rules) (line_is (written names r) (rule_text_is names n r utf8 (w r (inl refl)))) (rules_are rules (λ rule i. w rule (inr i)))
+      IsUtf8-append (rule_line names r) (flat_map (rule_line names) rules) (line_is (written names (unmarked r)) (rule_text_is names n (unmarked r) utf8 (w r (inl refl)))) (rules_are rules (λ rule i. w rule (inr i)))
 
   grammar_is : (grammar : Grammar) → IsWritableGrammar n grammar → IsUtf8 (grammar_text names grammar)
   grammar_is grammar w =

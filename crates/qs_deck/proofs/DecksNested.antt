@@ -11,7 +11,7 @@ use Rattle.qs_tree.specs.declared.cell.Label.{Label}
 use Rattle.qs_tree.specs.Lists.{◌∈◌}
 use Rattle.qs_tree.specs.Text.{name_of, label_text}
 use Rattle.qs_pattern.specs.declared.pattern.Head.TheVariants as head
-use Rattle.qs_pattern.specs.Rules.{Rule}
+use Rattle.qs_pattern.specs.Rules.{Rule, unmarked}
 use Rattle.qs_ruletext.specs.WrittenRules.{WrittenRule}
 use Rattle.qs_ruletext.specs.Rules.{ReadsRules, IsWellRead}
 use Rattle.qs_ruletext.specs.Written.{AreOnOneLine, written}
@@ -28,14 +28,14 @@ use Rattle.qs_graphtext.proofs.GraphsReadBack.{IsWritable}
 use Rattle.qs_graphtext.proofs.GraphNesting.{trees_height, lined, graph_shows, graph_opens}
 use Rattle.qs_deck.specs.WrittenDecks.{WrittenSystem, WrittenDeck}
 use Rattle.qs_deck.specs.Reading.{ReadsSystem, reads_system, ReadsSystems, ReadsDeck}
-use Rattle.qs_deck.specs.Decks.{Grammar, meaning_of}
+use Rattle.qs_deck.specs.Decks.{Grammar, rule_of, meaning_of}
 use Rattle.qs_deck.specs.Texts.{rule_line, grammar_text, deck_text}
 use Rattle.qs_deck.proofs.DecksReadBack.{IsWritableGrammar}
 
 -- how many are open at most in what is written of rules, and of grammars
 abbrev pub rules_height : List Rule → ℕ
 rules_height [] = 0
-rules_height (r ∷ rules) = max (rule_height r) (rules_height rules)
+rules_height (r ∷ rules) = max (rule_height (unmarked r)) (rules_height rules)
 
 abbrev pub grammars_height : List Grammar → ℕ
 grammars_height [] = 0
@@ -44,7 +44,7 @@ grammars_height (grammar ∷ grammars) = max (rules_height grammar.rules) (gramm
 -- what is read shows it
 
 rules_show : (names : List (List ℕ)) (text : List ℕ) (raws : List WrittenRule) (ts rest : List Token) → ReadsRules names text ts raws rest
-    → Shows (rules_height (map (λ (raw : WrittenRule). raw.rule) raws)) ts rest
+    → Shows (rules_height (map rule_of raws)) ts rest
 rules_show names text [] ts rest e = subst (λ us. Shows 0 ts us) e (shows_none ts)
 rules_show names text (raw ∷ raws) ts rest h = shows_both (rule_shows h.1.rule) (rules_show names text raws h.0 rest h.2)
 
@@ -67,14 +67,14 @@ deck_shows {names} {text} {ts} {d = d} r = shows_both (systems_show names text d
 -- what is written opens no more
 
 module _ (names : List (List ℕ)) (text : List ℕ) (names_line : AreOnOneLine names) where
-  rules_open : (rules : List Rule) → ((rule : Rule) → rule ∈ rules → IsWellRead (length names) rule) → (left : List ℕ)
+  rules_open : (rules : List Rule) → ((rule : Rule) → rule ∈ rules → IsWellRead (length names) (unmarked rule)) → (left : List ℕ)
       → Goes text (Opens (rules_height rules)) (flat_map (rule_line names) rules) left
   rules_open [] w left = none_goes text 0 left
   rules_open (r ∷ rules) w left =
       let others : List ℕ = flat_map (rule_line names) rules in
       both_go text (rule_line names r) others left
       (goes_less text (rule_line names r) (others ++ left)
-      (lined text (written names r) (others ++ left) (rule_opens text names names_line r (w r (inl refl)) (codes "\n" ++ (others ++ left)))) (omega arith))
+      (lined text (written names (unmarked r)) (others ++ left) (rule_opens text names names_line (unmarked r) (w r (inl refl)) (codes "\n" ++ (others ++ left)))) (omega arith))
       (goes_less text others left (rules_open rules (λ rule i. w rule (inr i)) left) (omega arith))
 
   heading_opens : (n : ℕ) (name : Label) → name.0 < length names → (left : List ℕ)

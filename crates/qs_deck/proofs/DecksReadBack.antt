@@ -1,5 +1,5 @@
 -- Decks that are written are read as they were, alone and wherever they stand in a text.
-use Rattle.std.proofs.Common.{◌≡◌, ℕ, ◌<◌, ◌≤◌, refl, sym, ap, ◌∙◌, subst, inl, inr, List, [], ◌∷◌, ◌++◌, length, map, arith, codes}
+use Rattle.std.proofs.Common.{◌≡◌, ℕ, ◌<◌, ◌≤◌, false, refl, sym, ap, ◌∙◌, subst, inl, inr, List, [], ◌∷◌, ◌++◌, length, map, arith, codes}
 use Rattle.std.specs.List.{flat_map}
 use Rattle.std.proofs.lemmas.List.{length-map}
 use Rattle.qs_lex.specs.declared.token.Token.{Token}
@@ -11,7 +11,7 @@ use Rattle.qs_tree.specs.declared.cell.Label.{Label}
 use Rattle.qs_tree.specs.Lists.{◌∈◌}
 use Rattle.qs_tree.specs.Text.{name_of, label_text}
 use Rattle.qs_pattern.specs.declared.pattern.Head.TheVariants as head
-use Rattle.qs_pattern.specs.Rules.{Rule}
+use Rattle.qs_pattern.specs.Rules.{Rule, UnmarkedRule, marked, unmarked}
 use Rattle.qs_ruletext.specs.Reading.{IsLabelOf}
 use Rattle.qs_ruletext.specs.WrittenRules.{WrittenRule}
 use Rattle.qs_ruletext.specs.Rules.{ReadsRule, ReadsWrittenRule, ReadsRules, IsWellRead, cell_bytes}
@@ -29,7 +29,7 @@ use Rattle.qs_graphtext.proofs.GraphsReadBack.{IsWritable, AreGraph, lined, grap
 use Rattle.qs_graphtext.proofs.SameGraph.{same_graph}
 use Rattle.qs_deck.specs.WrittenDecks.{WrittenSystem, WrittenDeck}
 use Rattle.qs_deck.specs.Reading.{ReadsSystem, reads_system, ReadsSystems, ReadsDeck}
-use Rattle.qs_deck.specs.Decks.{Grammar, meaning_of}
+use Rattle.qs_deck.specs.Decks.{Grammar, rule_of, meaning_of}
 use Rattle.qs_deck.specs.Texts.{rule_line, grammar_text, deck_text}
 use Rattle.qs_deck.proofs.Places.{first_of}
 
@@ -37,7 +37,8 @@ use Rattle.qs_deck.proofs.Places.{first_of}
 -- were read
 pub record IsWritableGrammar (n : ℕ) (grammar : Grammar) : Type 0 where
   pub name : grammar.name.0 < n
-  pub rules : (rule : Rule) → rule ∈ grammar.rules → IsWellRead n rule
+  pub rules : (rule : Rule) → rule ∈ grammar.rules → IsWellRead n (unmarked rule)
+  pub without_mark : (rule : Rule) → rule ∈ grammar.rules → rule.unique ≡ false
 
 -- the tokens before the rest are read as a deck that means these grammars, and whose chains, one for each arc, make this graph
 pub record ReadsBack (names : List (List ℕ)) (text : List ℕ) (ts : List Token) (grammars : List Grammar) (G : QGraph) (rest : List Token) : Type 0 where
@@ -48,7 +49,7 @@ pub record ReadsBack (names : List (List ℕ)) (text : List ℕ) (ts : List Toke
   pub graph_is : graph_of deck.chains ≡ G
 
 -- a rule that is read knows the bytes of its cells
-with_bytes : (names : List (List ℕ)) (text : List ℕ) (r : Rule) (ts rest : List Token) → ReadsRule names text ts r rest → (raw : WrittenRule) × (raw.rule ≡ r) × ReadsWrittenRule names text ts raw rest
+with_bytes : (names : List (List ℕ)) (text : List ℕ) (r : UnmarkedRule) (ts rest : List Token) → ReadsRule names text ts r rest → (raw : WrittenRule) × (raw.rule ≡ r) × ReadsWrittenRule names text ts raw rest
 with_bytes names text r ts rest reads =
     let found = rule_passes reads in
     (record { rule = r; at = cell_bytes found.passed }, refl, record { rule = reads; tokens = found.passed; are = found.are; at = refl })
@@ -56,7 +57,7 @@ with_bytes names text r ts rest reads =
 module _ (names : List (List ℕ)) (text : List ℕ) (names_line : AreOnOneLine names) where
   -- these tokens are read as these rules
   abbrev AreRules : List Rule → List Token → List Token → Type 0
-  AreRules rules ts rest = (raws : List WrittenRule) × (map (λ (raw : WrittenRule). raw.rule) raws ≡ rules) × ReadsRules names text ts raws rest
+  AreRules rules ts rest = (raws : List WrittenRule) × (map rule_of raws ≡ rules) × ReadsRules names text ts raws rest
 
   -- these as a system that means this grammar
   abbrev AreGrammar : Grammar → List Token → List Token → Type 0
@@ -70,19 +71,19 @@ module _ (names : List (List ℕ)) (text : List ℕ) (names_line : AreOnOneLine 
   abbrev AreHeading : Label → List Token → List Token → Type 0
   AreHeading name = Both (IsOne text (a_word Systeme) (codes "-SYSTEME-")) (Both IsNone (Both (λ ts rest. (t : Token) × (ts ≡ t ∷ rest) × IsLabelOf names text t name) (IsOne text Stop (codes "."))))
 
-  one_rule : (r : Rule) (rules : List Rule) (ts rest : List Token) → Both (λ us vs. ReadsRule names text us r vs) (AreRules rules) ts rest → AreRules (r ∷ rules) ts rest
-  one_rule r rules ts rest x =
-      let raw = with_bytes names text r ts x.0 x.1 in
-      (raw.0 ∷ x.2.0, (λ i. raw.1 i ∷ x.2.1 i), (x.0, raw.2, x.2.2))
+  one_rule : (r : Rule) → r.unique ≡ false → (rules : List Rule) (ts rest : List Token) → Both (λ us vs. ReadsRule names text us (unmarked r) vs) (AreRules rules) ts rest → AreRules (r ∷ rules) ts rest
+  one_rule r plain rules ts rest x =
+      let raw = with_bytes names text (unmarked r) ts x.0 x.1 in
+      (raw.0 ∷ x.2.0, (λ i. marked (sym plain i) (raw.1 i) ∷ x.2.1 i), (x.0, raw.2, x.2.2))
 
-  rules_go : (rules : List Rule) → ((rule : Rule) → rule ∈ rules → IsWellRead (length names) rule) → (left : List ℕ) → Goes text (AreRules rules) (flat_map (rule_line names) rules) left
-  rules_go [] w left = turned text [] left (λ ts rest e. ([], refl, e)) (nothing text left)
-  rules_go (r ∷ rules) w left =
+  rules_go : (rules : List Rule) → ((rule : Rule) → rule ∈ rules → IsWellRead (length names) (unmarked rule)) → ((rule : Rule) → rule ∈ rules → rule.unique ≡ false) → (left : List ℕ) → Goes text (AreRules rules) (flat_map (rule_line names) rules) left
+  rules_go [] w plain left = turned text [] left (λ ts rest e. ([], refl, e)) (nothing text left)
+  rules_go (r ∷ rules) w plain left =
       let others : List ℕ = flat_map (rule_line names) rules in
-      turned text (rule_line names r ++ others) left (one_rule r rules)
+      turned text (rule_line names r ++ others) left (one_rule r (plain r (inl refl)) rules)
       (both text (rule_line names r) others left
-      (lined text (written names r) (others ++ left) (rule_goes names text names_line r (w r (inl refl)) (codes "\n" ++ (others ++ left))))
-      (rules_go rules (λ rule i. w rule (inr i)) left))
+      (lined text (written names (unmarked r)) (others ++ left) (rule_goes names text names_line (unmarked r) (w r (inl refl)) (codes "\n" ++ (others ++ left))))
+      (rules_go rules (λ rule i. w rule (inr i)) (λ rule i. plain rule (inr i)) left))
 
   heading_goes : (name : Label) → name.0 < length names → (left : List ℕ) → Goes text (AreHeading name) (codes "-SYSTEME- " ++ (label_text (name_of names name) ++ codes ".")) left
   heading_goes name within left =
@@ -116,7 +117,7 @@ module _ (names : List (List ℕ)) (text : List ℕ) (names_line : AreOnOneLine 
       turned text (line heading ++ rules) left (one_grammar grammar)
       (both text (line heading) rules left
       (lined text heading (rules ++ left) (heading_goes grammar.name w.name (codes "\n" ++ (rules ++ left))))
-      (rules_go grammar.rules w.rules left))
+      (rules_go grammar.rules w.rules w.without_mark left))
 
   one_more_grammar : (grammar : Grammar) (grammars : List Grammar) (ts rest : List Token) → Both (AreGrammar grammar) (AreGrammars grammars) ts rest → AreGrammars (grammar ∷ grammars) ts rest
   one_more_grammar grammar grammars ts rest x = (x.1.0 ∷ x.2.0, (λ i. x.1.1 i ∷ x.2.1 i), (x.0, x.1.2, x.2.2))

@@ -17,7 +17,7 @@ use Rattle.qs_lex.specs.Expecting.{Stops}
 use Rattle.qs_lex.proofs.Totality.{a_reading}
 use Rattle.qs_lex.proofs.Deciding.{Below, whole_or_stops}
 use Rattle.qs_lex.proofs.OpenParentheses.{first_too_deep}
-use Rattle.qs_pattern.specs.Rules.{IsAccepted}
+use Rattle.qs_pattern.specs.Rules.{IsAcceptable}
 use Rattle.qs_ruletext.specs.WrittenRules.{WrittenRule}
 use Rattle.qs_check.specs.declared.checking.CheckEnd.TheVariants.{Refused}
 use Rattle.qs_check.specs.Checking.{CanBeChecked}
@@ -103,12 +103,12 @@ syntax_decided ts = ⊎_elim (λ w. inl w) (λ s. inr (length ts - s.0, stopped 
 
 -- ---- checks
 
-rules_decided : (raws : List WrittenRule) → All CanBeChecked raws → All (λ raw. IsAccepted raw.rule) raws ⊎ ((cause : Cause) × (at : ℕ) × IsFirstOf raws (Refused cause at))
-rules_decided [] can = inl (All-nil (λ raw. IsAccepted raw.rule))
+rules_decided : (raws : List WrittenRule) → All CanBeChecked raws → All (λ raw. IsAcceptable raw.rule) raws ⊎ ((cause : Cause) × (at : ℕ) × IsFirstOf raws (Refused cause at))
+rules_decided [] can = inl (All-nil (λ raw. IsAcceptable raw.rule))
 rules_decided (raw ∷ raws) can =
     ⊎_elim
     (λ good. ⊎_elim
-    (λ others. inl (All-cons (λ r. IsAccepted r.rule) raw raws good others))
+    (λ others. inl (All-cons (λ r. IsAcceptable r.rule) raw raws good others))
     (λ f. inr (
       f.0,
       f.1,
@@ -117,12 +117,12 @@ rules_decided (raw ∷ raws) can =
         raw = f.2.raw;
         behind = f.2.behind;
         are = ap (λ rs. raw ∷ rs) f.2.are;
-        accepted = All-cons (λ r. IsAccepted r.rule) raw f.2.front good f.2.accepted;
+        accepted = All-cons (λ r. IsAcceptable r.rule) raw f.2.front good f.2.accepted;
         ends = f.2.ends;
       },
     ))
     (rules_decided raws (All-tail CanBeChecked raw raws can)))
-    (λ c. inr (c.0, c.1, record { front = []; raw = raw; behind = raws; are = refl; accepted = All-nil (λ r. IsAccepted r.rule); ends = c.2 }))
+    (λ c. inr (c.0, c.1, record { front = []; raw = raw; behind = raws; are = refl; accepted = All-nil (λ r. IsAcceptable r.rule); ends = c.2 }))
     (rule_accepted_or_refused raw (All-head CanBeChecked raw raws can))
 
 system_at : (systems : List WrittenSystem) (k : ℕ) → k < length systems → (s : WrittenSystem) × (slice_get systems k ≡ Some s)

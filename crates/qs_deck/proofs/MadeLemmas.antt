@@ -1,5 +1,5 @@
 -- The names, the rules, the words and the text of made decks.
-use Rattle.std.proofs.Common.{◌≡◌, ◌⊎◌, ℕ, zero, suc, ◌+◌, ◌-◌, ◌^◌, ◌<◌, ◌≤◌, List, [], ◌∷◌, ◌++◌, length, map, refl, sym, ◌∙◌, ap, subst, inl, inr, ⊎_elim, arith, get_or, Contains, codes, decimal, flat_map, None}
+use Rattle.std.proofs.Common.{◌≡◌, ◌⊎◌, ℕ, false, zero, suc, ◌+◌, ◌-◌, ◌^◌, ◌<◌, ◌≤◌, List, [], ◌∷◌, ◌++◌, length, map, refl, sym, ◌∙◌, ap, subst, inl, inr, ⊎_elim, arith, get_or, Contains, codes, decimal, flat_map, None}
 use Rattle.std.specs.List.{range_with_len}
 use Rattle.std.proofs.lemmas.Fmt.{decimal_injective, decimal_nonempty}
 use Rattle.std.proofs.lemmas.Grind.{flat_map-append}
@@ -125,7 +125,7 @@ names_count k =
 -- rules
 
 pub rule_accepted : (i : ℕ) (left right : Patterns) → left ≡ of_level i first_var (of_level i second_var no_pattern) → right ≡ of_level (i + 1) first_var no_pattern
-    → IsAccepted (record { left = left; right = right; condition = None })
+    → IsAccepted (record { left = left; right = right; condition = None; unique = false })
 rule_accepted i left right l r = rw (l, r) (record {
   left = record { some = omega arith; at_most = omega arith; no_forest_at_top = tt; in_class = (tt, ((omega arith, omega arith), tt), (tt, ((omega arith, omega arith), tt), tt)) };
   right = record { some = omega arith; at_most = omega arith; no_forest_at_top = tt; in_class = (tt, ((omega arith, omega arith), tt), tt) };
@@ -136,9 +136,9 @@ rule_accepted i left right l r = rw (l, r) (record {
   bound = λ v among. ⊎_elim (λ e. inl e) (λ none. absurd none) among;
 })
 
-pub rule_is : (i : ℕ) (rule : Rule) (left right : Patterns) → rule ≡ record { left = left; right = right; condition = None }
+pub rule_is : (i : ℕ) (rule : Rule) (left right : Patterns) → rule ≡ record { left = left; right = right; condition = None; unique = false }
     → left ≡ of_level i first_var (of_level i second_var no_pattern) → right ≡ of_level (i + 1) first_var no_pattern → rule ≡ level_rule i
-rule_is i rule left right is l r = is ∙ (λ j. record { left = l j; right = r j; condition = None })
+rule_is i rule left right is l r = is ∙ (λ j. record { left = l j; right = r j; condition = None; unique = false })
 
 pub rules_next : (j : ℕ) (out new : List Rule) (rule : Rule) → out ≡ map level_rule (range_with_len 0 j) → rule ≡ level_rule j → new ≡ out ++ rule ∷ []
     → new ≡ map level_rule (range_with_len 0 (j + 1))

@@ -29,7 +29,7 @@ use Rattle.qs_graphtext.proofs.TreesLaid.{trees_laid, named_laid}
 use Rattle.qs_deck.specs.WrittenDecks.{WrittenSystem, WrittenDeck, rules_of}
 use Rattle.qs_deck.specs.declared.system.System.{System}
 use Rattle.qs_deck.specs.Named.{IsRuleNamed, AreSystemsNamed}
-use Rattle.qs_deck.specs.Decks.{Grammar, grammar_of, meaning_of, IsWritten}
+use Rattle.qs_deck.specs.Decks.{Grammar, rule_of, grammar_of, meaning_of, IsWritten}
 use Rattle.qs_deck.specs.Checks.{IsChecked, IsCheckFault, too_many_systems, rule_not_accepted}
 use Rattle.qs_deck.specs.Refusals.{IsGraphFault, too_many_arcs, cycle, entries, exits, IsFault, tokens, check, graph, IsRefusalOf, EndsFor}
 use Rattle.qs_deck.specs.declared.deck.DeckEnd.{DeckEnd}
@@ -70,7 +70,7 @@ all_member P [] x h i = elim i [ ]
 all_member P (y ∷ ys) x h (inl e) = subst P (sym e) (All-head P y ys h)
 all_member P (y ∷ ys) x h (inr i) = all_member P ys x (All-tail P y ys h) i
 
-rule_named : (n : ℕ) (raw : WrittenRule) → IsWellRead n raw.rule → IsRuleNamed n raw.rule
+rule_named : (n : ℕ) (raw : WrittenRule) → IsWellRead n raw.rule → IsRuleNamed n (rule_of raw)
 rule_named n raw w = record { left = w.left.named; right = w.right.named; condition = if_given raw.rule.condition w.condition }
   where
     if_given : (o : Option Condition) → IsWellReadIfGiven n o → IsNamedIfGiven n o
@@ -147,7 +147,7 @@ module _ (text : List ℕ) (names : List (List ℕ)) (deck : WrittenDeck) (w : I
   meaning_named : (system : WrittenSystem) → system ∈ deck.systems → IsGrammarNamed (length names) (meaning_of system)
   meaning_named system i =
       let x = systems_named names text w.tokens (w.reads.first ∷ w.reads.behind) deck.systems w.reads.systems system i in
-      (x.0, from_map (λ (r : WrittenRule). r.rule) system.rules (IsRuleNamed (length names)) (λ raw j. rule_named (length names) raw (all_member (λ (r : WrittenRule). IsWellRead (length names) r.rule) system.rules raw x.1 j)))
+      (x.0, from_map rule_of system.rules (IsRuleNamed (length names)) (λ raw j. rule_named (length names) raw (all_member (λ (r : WrittenRule). IsWellRead (length names) r.rule) system.rules raw x.1 j)))
 
   pub grammars_named : (systems : List System) → map grammar_of systems ≡ map meaning_of deck.systems → AreSystemsNamed (length names) systems
   grammars_named systems e system i =

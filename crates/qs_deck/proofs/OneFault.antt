@@ -14,7 +14,7 @@ use Rattle.qs_lex.specs.Grammar.{part, IsWhole, Begins}
 use Rattle.qs_lex.proofs.Expected.{whole_begins}
 use Rattle.qs_lex.proofs.Readings as readings
 use Rattle.qs_tree.specs.Names.{AreDistinct}
-use Rattle.qs_pattern.specs.Rules.{IsAccepted}
+use Rattle.qs_pattern.specs.Rules.{IsAcceptable}
 use Rattle.qs_ruletext.specs.WrittenRules.{WrittenRule}
 use Rattle.qs_ruletext.specs.Names.{NamesGrow}
 use Rattle.qs_ruletext.proofs.Naming.{one_growth, grow_distinct}
@@ -80,14 +80,14 @@ never_whole ts i stops whole =
 
 -- ---- checks
 
-accepted_first : (raw : WrittenRule) (raws : List WrittenRule) → AreAccepted (raw ∷ raws) → IsAccepted raw.rule
-accepted_first raw raws all = All-head (λ r. IsAccepted r.rule) raw raws all
+accepted_first : (raw : WrittenRule) (raws : List WrittenRule) → AreAccepted (raw ∷ raws) → IsAcceptable raw.rule
+accepted_first raw raws all = All-head (λ r. IsAcceptable r.rule) raw raws all
 
 accepted_rest : (raw : WrittenRule) (raws : List WrittenRule) → AreAccepted (raw ∷ raws) → AreAccepted raws
-accepted_rest raw raws all = All-tail (λ r. IsAccepted r.rule) raw raws all
+accepted_rest raw raws all = All-tail (λ r. IsAcceptable r.rule) raw raws all
 
 -- a rule that is accepted isn't refused
-not_refused : (r : WrittenRule) (cause : Cause) (at : ℕ) → IsAccepted r.rule → EndsWith r (Refused cause at) → ⊥
+not_refused : (r : WrittenRule) (cause : Cause) (at : ℕ) → IsAcceptable r.rule → EndsWith r (Refused cause at) → ⊥
 not_refused r cause at accepted ends = none_if_accepted r.rule cause ends.0 accepted ends.1
 
 one_end : (r : WrittenRule) (c d : Cause) (p q : ℕ) → EndsWith r (Refused c p) → EndsWith r (Refused d q) → (p ≡ q) × (c ≡ d)

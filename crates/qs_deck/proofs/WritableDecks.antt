@@ -1,5 +1,5 @@
 -- Of a text that is accepted, what makes that its names, its grammars and its graph can be written and read again.
-use Rattle.std.proofs.Common.{ℕ, ◌+◌, ◌≤◌, List, [], ◌∷◌, length, sym, ap, subst, arith, length-append}
+use Rattle.std.proofs.Common.{◌≡◌, ℕ, ◌+◌, ◌≤◌, false, refl, List, [], ◌∷◌, length, sym, ap, subst, arith, length-append}
 use Rattle.std.specs.List.{All}
 use Rattle.std.proofs.lemmas.List.{length-map}
 use Rattle.std.proofs.lemmas.Option.{slice_get-get_or}
@@ -10,6 +10,7 @@ use Rattle.qs_lex.specs.Tokens.{AreTokensOf, IsTokenOf}
 use Rattle.qs_tree.specs.Lists.{◌∈◌}
 use Rattle.qs_tree.specs.Names.{AreDistinct}
 use Rattle.qs_tree.proofs.Members.{from_map}
+use Rattle.qs_pattern.specs.Rules.{unmarked}
 use Rattle.qs_ruletext.specs.WrittenRules.{WrittenRule}
 use Rattle.qs_ruletext.specs.Rules.{IsWellRead}
 use Rattle.qs_ruletext.specs.Written.{AreOnOneLine}
@@ -22,7 +23,7 @@ use Rattle.qs_graphtext.specs.GraphOfChains.{trees_in, numbers_in, different, de
 use Rattle.qs_graphtext.specs.Texts.{AreArcsNamed}
 use Rattle.qs_graphtext.proofs.GraphsOfChains.{numbers_few}
 use Rattle.qs_deck.specs.WrittenDecks.{WrittenSystem, WrittenDeck}
-use Rattle.qs_deck.specs.Decks.{Grammar, meaning_of, IsDeckOf}
+use Rattle.qs_deck.specs.Decks.{Grammar, rule_of, meaning_of, IsDeckOf}
 use Rattle.qs_deck.proofs.WhatIsRead.{systems_named}
 use Rattle.qs_deck.proofs.Meanings.{all_member, chains_whole, arcs_named}
 use Rattle.qs_deck.proofs.DecksReadBack.{IsWritableGrammar}
@@ -65,8 +66,9 @@ module _ {text : List ℕ} {names : List (List ℕ)} {grammars : List Grammar} {
       record {
         name = known.0;
         rules =
-            from_map (λ (raw : WrittenRule). raw.rule) system.rules (IsWellRead (length names))
+            from_map rule_of system.rules (λ rule. IsWellRead (length names) (unmarked rule))
             (λ raw j. all_member (λ (r : WrittenRule). IsWellRead (length names) r.rule) system.rules raw known.1 j);
+        without_mark = from_map rule_of system.rules (λ rule. rule.unique ≡ false) (λ raw j. refl);
       }
 
   grammar_writable : (grammar : Grammar) → grammar ∈ grammars → IsWritableGrammar (length names) grammar

@@ -2,7 +2,7 @@
 use Rattle.std.specs.Prelude.{◌≡◌, ◌≤◌, ◌⊎◌, List, ◌∷◌, ◌++◌, length, Some, slice_get}
 use Rattle.std.specs.List.{All}
 use Rattle.qs_lex.specs.declared.refusal.Cause.TheVariants.{TooManySystems}
-use Rattle.qs_pattern.specs.Rules.{IsAccepted}
+use Rattle.qs_pattern.specs.Rules.{IsAcceptable}
 use Rattle.qs_ruletext.specs.WrittenRules.{WrittenRule}
 use Rattle.qs_check.specs.declared.checking.CheckEnd.{CheckEnd}
 use Rattle.qs_check.specs.declared.checking.CheckEnd.TheVariants.{Refused, Memory}
@@ -10,7 +10,7 @@ use Rattle.qs_check.specs.Checking.{EndsWith}
 use Rattle.qs_deck.specs.WrittenDecks.{WrittenSystem, rules_of}
 
 abbrev pub AreAccepted : List WrittenRule → Type 0
-AreAccepted raws = All (λ raw. IsAccepted raw.rule) raws
+AreAccepted raws = All (λ raw. IsAcceptable raw.rule) raws
 
 -- the rules in front of one are accepted, and that one is refused so
 pub record IsFirstOf (raws : List WrittenRule) (end : CheckEnd) : Type 0 where

@@ -3,7 +3,7 @@ use Rattle.std.specs.Prelude.{◌≡◌, ℕ, ◌≤◌, List, ◌∷◌, ◌++�
 use Rattle.std.specs.List.{All}
 use Rattle.qs_lex.specs.declared.refusal.Cause.{Cause}
 use Rattle.qs_lex.specs.declared.refusal.Cause.TheVariants.{TooManySystems}
-use Rattle.qs_pattern.specs.Rules.{IsAccepted}
+use Rattle.qs_pattern.specs.Rules.{IsAcceptable}
 use Rattle.qs_ruletext.specs.WrittenRules.{WrittenRule}
 use Rattle.qs_check.specs.declared.checking.CheckEnd.TheVariants.{Refused}
 use Rattle.qs_check.specs.Checking.{EndsWith}
@@ -12,12 +12,12 @@ use Rattle.qs_deck.specs.WrittenDecks.{WrittenSystem, WrittenDeck, rules_in}
 -- There are at most 256 systems, and each rule is accepted.
 pub record IsChecked (deck : WrittenDeck) : Type 0 where
   pub few : length deck.systems ≤ 256
-  pub accepted : All (λ raw. IsAccepted raw.rule) (rules_in deck)
+  pub accepted : All (λ raw. IsAcceptable raw.rule) (rules_in deck)
 
 -- The first fault and its byte: the word -SYSTEME- of the 257th system; or, where there are no more than 256, the first
 -- cause why the first rule that isn't accepted isn't.
 pub data IsCheckFault (deck : WrittenDeck) : ℕ → Cause → Type 0 where
   too_many_systems : (system : WrittenSystem) → slice_get deck.systems 256 ≡ Some system → IsCheckFault deck system.at TooManySystems
   rule_not_accepted : (front behind : List WrittenRule) (raw : WrittenRule) {at : ℕ} {cause : Cause}
-      → length deck.systems ≤ 256 → rules_in deck ≡ front ++ raw ∷ behind → All (λ r. IsAccepted r.rule) front
+      → length deck.systems ≤ 256 → rules_in deck ≡ front ++ raw ∷ behind → All (λ r. IsAcceptable r.rule) front
       → EndsWith raw (Refused cause at) → IsCheckFault deck at cause

@@ -1,11 +1,12 @@
 -- Accepted decks: the grammars and the graph that a text means.
-use Rattle.std.specs.Prelude.{◌≡◌, ℕ, List, [], map}
+use Rattle.std.specs.Prelude.{◌≡◌, ℕ, false, List, [], map}
 use Rattle.std.specs.Str.{IsUtf8}
 use Rattle.qs_lex.specs.declared.token.Token.{Token}
 use Rattle.qs_lex.specs.Tokens.{AreTokensOf}
 use Rattle.qs_lex.specs.Nesting.{IsTooDeep}
 use Rattle.qs_tree.specs.declared.cell.Label.{Label}
-use Rattle.qs_pattern.specs.Rules.{Rule}
+use Rattle.qs_pattern.specs.Rules.{Rule, marked}
+use Rattle.qs_ruletext.specs.WrittenRules.{WrittenRule}
 use Rattle.qs_ruletext.specs.Names.{NamesGrow}
 use Rattle.qs_graph.specs.Graphs.{QGraph, IsValid}
 use Rattle.qs_graphtext.specs.GraphOfChains.{AreFew, graph_of}
@@ -19,12 +20,16 @@ pub record Grammar : Type 0 where
   pub name : Label
   pub rules : List Rule
 
+-- The rule that a written one means. No text tells a mark yet, so the rules of a deck that was read have none.
+abbrev pub rule_of : WrittenRule → Rule
+rule_of written = marked false written.rule
+
 -- The grammar that a system is, and the grammar that a written one means.
 abbrev pub grammar_of : System → Grammar
 grammar_of system = record { name = system.name; rules = system.rules.items }
 
 abbrev pub meaning_of : WrittenSystem → Grammar
-meaning_of system = record { name = system.name; rules = map (λ written. written.rule) system.rules }
+meaning_of system = record { name = system.name; rules = map rule_of system.rules }
 
 -- The text is UTF-8, these are its tokens, and at most 1,000 parentheses are open at a time.
 pub record HasTokens (text : List ℕ) (tokens : List Token) : Type 0 where

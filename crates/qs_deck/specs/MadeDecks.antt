@@ -1,6 +1,6 @@
 -- The made deck of a size k: a chain of 2^k words, and a grammar that joins two trees of one level into a tree of the
 -- next level, until one tree of level k is left. This deck is this project's own.
-use Rattle.std.specs.Prelude.{ℕ, ◌+◌, ◌-◌, ◌^◌, List, [], ◌∷◌, ◌++◌, None, map, flat_map, codes, decimal}
+use Rattle.std.specs.Prelude.{ℕ, false, ◌+◌, ◌-◌, ◌^◌, List, [], ◌∷◌, ◌++◌, None, map, flat_map, codes, decimal}
 use Rattle.std.specs.List.{range_with_len}
 use Rattle.std.proofs.Common.{refl, lit≤}
 use Rattle.qs_tree.specs.declared.cell.Label.{Label}
@@ -60,6 +60,7 @@ level_rule i = record {
   left = of_level i first_var (of_level i second_var no_pattern);
   right = of_level (i + 1) first_var no_pattern;
   condition = None;
+  unique = false;
 }
 
 -- The grammar M has one such rule for each level below k.

@@ -8,7 +8,7 @@ use Rattle.qs_tree.specs.Text.{AreNamed}
 use Rattle.qs_pattern.specs.declared.pattern.Head.{Head}
 use Rattle.qs_pattern.specs.declared.pattern.Head.TheVariants as head
 use Rattle.qs_pattern.specs.Patterns.{Patterns, no_pattern, node_first, tree_var_first, forest_var_first}
-use Rattle.qs_pattern.specs.Conditions.{Condition, Conditions, within, outside, negated, all, any, no_condition, condition_first}
+use Rattle.qs_pattern.specs.Conditions.{Condition, Conditions, compared, negated, combined, no_condition, condition_first}
 use Rattle.qs_pattern.specs.Rules.{Rule}
 use Rattle.qs_pattern.specs.Named.{IsHeadNamed, ArePatternsNamed, IsConditionNamed, AreConditionsNamed, IsNamedIfGiven}
 use Rattle.qs_graph.specs.Graphs.{Arc}
@@ -47,11 +47,9 @@ ArePatternsNamed-prop n (forest_var_first v b) = ArePatternsNamed-prop n b
 
 mutual
   pub IsConditionNamed-prop : (n : ℕ) (c : Condition) → IsProp (IsConditionNamed n c)
-  IsConditionNamed-prop n (within a b) = λ x y i. (ArePatternsNamed-prop n a x.0 y.0 i, ArePatternsNamed-prop n b x.1 y.1 i)
-  IsConditionNamed-prop n (outside a b) = λ x y i. (ArePatternsNamed-prop n a x.0 y.0 i, ArePatternsNamed-prop n b x.1 y.1 i)
+  IsConditionNamed-prop n (compared word a b) = λ x y i. (ArePatternsNamed-prop n a x.0 y.0 i, ArePatternsNamed-prop n b x.1 y.1 i)
   IsConditionNamed-prop n (negated c) = IsConditionNamed-prop n c
-  IsConditionNamed-prop n (all cs) = AreConditionsNamed-prop n cs
-  IsConditionNamed-prop n (any cs) = AreConditionsNamed-prop n cs
+  IsConditionNamed-prop n (combined word cs) = AreConditionsNamed-prop n cs
 
   pub AreConditionsNamed-prop : (n : ℕ) (cs : Conditions) → IsProp (AreConditionsNamed n cs)
   AreConditionsNamed-prop n no_condition = Unit-prop

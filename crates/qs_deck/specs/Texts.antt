@@ -8,7 +8,7 @@ use Rattle.qs_ruletext.specs.Texts.{rule_text}
 use Rattle.qs_graphtext.specs.Texts.{line, graph_text}
 use Rattle.qs_deck.specs.Decks.{Grammar}
 
--- A rule: `A + B(U*) == C(U*).`
+-- A rule: `A + B(U*) == C(U*).` Its mark isn't written.
 abbrev pub rule_line : List (List ℕ) → Rule → List ℕ
 rule_line names rule = line (rule_text names rule.left rule.right rule.condition)
 

@@ -2,9 +2,8 @@
 
 ghost use Rattle.std.specs.Prelude.{◌≡◌, ◌<◌, ◌≤◌, IfOk, IfErr, length, map};
 ghost use Rattle.std.specs.List.{All};
-ghost use Rattle.qs_ruletext.specs.WrittenRules.{WrittenRule};
 ghost use Rattle.qs_check.specs.Checking.{CanBeChecked};
-ghost use Rattle.qs_deck.specs.Decks.{grammar_of, meaning_of};
+ghost use Rattle.qs_deck.specs.Decks.{rule_of, grammar_of, meaning_of};
 ghost use Rattle.qs_deck.specs.WrittenDecks.{rules_of};
 ghost use Rattle.qs_deck.specs.Checked.{AreAccepted, IsFirstRefused, IsFirstFault};
 
@@ -19,16 +18,16 @@ use std::alloc::Global;
 /// The most grammars of a deck.
 const MOST_SYSTEMS: usize = 256;
 
-/// The rules, each of which is accepted; or the first cause why the first that isn't accepted isn't.
+/// The rules, each of which is accepted and unmarked; or the first cause why the first that isn't accepted isn't.
 fn checked_rules(alloc: Global, raws: Vec<RawRule>) -> Result<Vec<Rule>, CheckEnd>
     requires { All CanBeChecked raws.items }
-    ensures rules { IfOk result (λ rules. rules.items ≡ map (λ (raw : WrittenRule). raw.rule) raws.items) }
+    ensures rules { IfOk result (λ rules. rules.items ≡ map rule_of raws.items) }
     ensures accepted { IfOk result (λ _. AreAccepted raws.items) }
     ensures refused { IfErr result (IsFirstRefused raws.items) }
 {
     let mut rules = Vec::new(alloc);
     for raw in raws {
-        let rule = check(alloc, raw)?;
+        let rule = check(alloc, raw, false)?;
         rules.push(rule)?;
     }
     Ok(rules)

@@ -146,7 +146,7 @@ fn level_rule(alloc: Global, level: u32) -> Result<Rule, AllocError>
 {
     let left = level_left(alloc, level)?;
     let right = level_right(alloc, level + 1)?;
-    Ok(Rule::new(alloc, left, right, None))
+    Ok(Rule::new(alloc, left, right, None, false))
 }
 
 /// The grammar of the made deck of this size.

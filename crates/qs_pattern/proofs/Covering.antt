@@ -1,5 +1,5 @@
 -- A match of a rule's left side covers what else the rule writes.
-use Rattle.std.proofs.Common.{◌≡◌, List, ◌++◌, Some, refl, sym, subst, inl, inr}
+use Rattle.std.proofs.Common.{◌≡◌, List, [], ◌++◌, Some, refl, sym, subst, inl, inr}
 use Rattle.qs_tree.specs.Lists.{◌∈◌}
 use Rattle.qs_tree.specs.Trees.{Tree}
 use Rattle.qs_tree.proofs.Members.{in_append_left, in_append_right}
@@ -9,7 +9,7 @@ use Rattle.qs_pattern.specs.declared.pattern.Head.TheVariants as head
 use Rattle.qs_pattern.specs.Patterns.{Patterns, no_pattern, node_first, tree_var_first, forest_var_first, head_variables, variables_in, IsHeadInClass, AreInClass}
 use Rattle.qs_pattern.specs.Substitutions.{Substitution}
 use Rattle.qs_pattern.specs.Instances.{IsLabel, IsTree, IsForest, IsHeadCovered, IsCovered, IsMatch}
-use Rattle.qs_pattern.specs.Conditions.{Condition, Conditions, within, outside, negated, all, any, no_condition, condition_first, condition_variables, conditions_variables, IsConditionInClass, AreConditionsInClass, IsConditionCovered, AreConditionsCovered}
+use Rattle.qs_pattern.specs.Conditions.{Condition, Conditions, compared, negated, combined, no_condition, condition_first, over_all_lists, EachListOfAll, condition_variables, IsConditionInClass, IsConditionCovered, AreConditionsCovered}
 use Rattle.qs_pattern.specs.Rules.{Rule, IsAccepted, variables_if_given, IsInClassIfGiven}
 use Rattle.qs_pattern.proofs.VariableLemmas.{HasValue}
 use Rattle.qs_pattern.proofs.Reading.{label_of_var, tree_of_var, forest_of_var}
@@ -40,16 +40,17 @@ module _ (s : Substitution) where
     all_covered b c.1 (λ v i. has v (in_append_right (variables_in a) (variables_in b) v i)),
   )
 
+abbrev pub conditions_variables : Conditions → List Var
+conditions_variables cs = over_all_lists [] (λ vs ws. vs ++ ws) variables_in cs
+
 mutual
   -- so are conditions
   pub condition_covered : (s : Substitution) (c : Condition) → IsConditionInClass c → ((v : Var) → v ∈ condition_variables c → HasValue s v) → IsConditionCovered s c
-  condition_covered s (within a b) k has = lists_covered s a b k has
-  condition_covered s (outside a b) k has = lists_covered s a b k has
+  condition_covered s (compared w a b) k has = lists_covered s a b k has
   condition_covered s (negated c) k has = condition_covered s c k has
-  condition_covered s (all cs) k has = conditions_covered s cs k has
-  condition_covered s (any cs) k has = conditions_covered s cs k has
+  condition_covered s (combined w cs) k has = conditions_covered s cs k has
 
-  conditions_covered : (s : Substitution) (cs : Conditions) → AreConditionsInClass cs → ((v : Var) → v ∈ conditions_variables cs → HasValue s v) → AreConditionsCovered s cs
+  conditions_covered : (s : Substitution) (cs : Conditions) → EachListOfAll AreInClass cs → ((v : Var) → v ∈ conditions_variables cs → HasValue s v) → AreConditionsCovered s cs
   conditions_covered s no_condition k has = tt
   conditions_covered s (condition_first c cs) k has = (
     condition_covered s c k.0 (λ v i. has v (in_append_left (condition_variables c) (conditions_variables cs) v i)),

@@ -10,7 +10,7 @@ use Rattle.qs_pattern.specs.contracts.variable.Var as var
 use Rattle.qs_pattern.specs.Patterns.{Patterns}
 use Rattle.qs_pattern.specs.Substitutions.{Substitution, variables_of, IsOfClass}
 use Rattle.qs_pattern.specs.Instances.{inst, variables, IsMatch}
-use Rattle.qs_pattern.specs.Conditions.{Condition, Conditions, within, outside, negated, all, any, no_condition, condition_first, Holds, AllHold, SomeHolds, HoldsIfGiven}
+use Rattle.qs_pattern.specs.Conditions.{Comparing, within, outside, Compares, all, any, Condition, Conditions, compared, negated, combined, no_condition, condition_first, Holds, AllHold, SomeHolds, HoldsIfGiven}
 use Rattle.qs_tree.proofs.Decisions.{decide_number, decide_at_most, decide_not, decide_both, decide_either, decide_list, decide_member, decide_each, decide_label, decide_tree}
 
 abbrev pub decide_var : (v w : Var) → Dec (v ≡ w)
@@ -90,13 +90,16 @@ decide_match side ts s = all_of (decide_list decide_var (variables_of s) (variab
     all_of v (no n) i = no (λ m. n m.classes)
     all_of v c (no n) = no (λ m. n m.instance)
 
+abbrev decide_compares : (w : Comparing) (ts us : List Tree) → Dec (Compares w ts us)
+decide_compares within ts us = decide_each (λ t. t ∈ us) (λ t. decide_member decide_tree t us) ts
+decide_compares outside ts us = decide_each (λ t. t ∈ us → ⊥) (λ t. decide_not (decide_member decide_tree t us)) ts
+
 abbrev mutual
   decide_holds : (c : Condition) (s : Substitution) → Dec (Holds c s)
-  decide_holds (within a b) s = decide_each (λ t. t ∈ inst s b) (λ t. decide_member decide_tree t (inst s b)) (inst s a)
-  decide_holds (outside a b) s = decide_each (λ t. t ∈ inst s b → ⊥) (λ t. decide_not (decide_member decide_tree t (inst s b))) (inst s a)
+  decide_holds (compared w a b) s = decide_compares w (inst s a) (inst s b)
   decide_holds (negated c) s = decide_not (decide_holds c s)
-  decide_holds (all cs) s = decide_all cs s
-  decide_holds (any cs) s = decide_some cs s
+  decide_holds (combined all cs) s = decide_all cs s
+  decide_holds (combined any cs) s = decide_some cs s
 
   decide_all : (cs : Conditions) (s : Substitution) → Dec (AllHold cs s)
   decide_all no_condition s = yes tt

@@ -7,7 +7,7 @@ use base.Stored.{Gv, gnil, gcons}
 use Rattle.qs_pattern.specs.contracts.variable.Var as var
 use Rattle.qs_pattern.specs.contracts.pattern.Head as head
 use Rattle.qs_pattern.specs.Patterns.{Patterns, no_pattern, node_first, tree_var_first, forest_var_first}
-use Rattle.qs_pattern.specs.Conditions.{Condition, Conditions, within, outside, negated, all, any, no_condition, condition_first}
+use Rattle.qs_pattern.specs.Conditions.{Comparing, within, outside, Joining, all, any, Condition, Conditions, compared, negated, combined, no_condition, condition_first}
 use Rattle.qs_pattern.specs.Rules.{Rule, UnmarkedRule, marked, unmarked}
 
 -- Marks that differ.
@@ -19,12 +19,6 @@ second_mark = gcons gnil gnil
 
 abbrev third_mark : Gv
 third_mark = gcons gnil (gcons gnil gnil)
-
-abbrev fourth_mark : Gv
-fourth_mark = gcons gnil (gcons gnil (gcons gnil gnil))
-
-abbrev fifth_mark : Gv
-fifth_mark = gcons gnil (gcons gnil (gcons gnil (gcons gnil gnil)))
 
 abbrev pub patterns_tree : Patterns → Gv
 patterns_tree no_pattern = gnil
@@ -63,13 +57,31 @@ patterns_tree-one (forest_var_first v b) (tree_var_first v' b') e = absurd cc
 abbrev pub patterns_code : Coded Patterns
 patterns_code = record { code = patterns_tree; inj = patterns_tree-one }
 
+abbrev comparing_tree : Comparing → Gv
+comparing_tree within = first_mark
+comparing_tree outside = second_mark
+
+comparing_tree-one : (v w : Comparing) → comparing_tree v ≡ comparing_tree w → v ≡ w
+comparing_tree-one within within e = refl
+comparing_tree-one outside outside e = refl
+comparing_tree-one within outside e = absurd cc
+comparing_tree-one outside within e = absurd cc
+
+abbrev joining_tree : Joining → Gv
+joining_tree all = first_mark
+joining_tree any = second_mark
+
+joining_tree-one : (v w : Joining) → joining_tree v ≡ joining_tree w → v ≡ w
+joining_tree-one all all e = refl
+joining_tree-one any any e = refl
+joining_tree-one all any e = absurd cc
+joining_tree-one any all e = absurd cc
+
 abbrev mutual
   pub condition_tree : Condition → Gv
-  condition_tree (within a b) = gcons first_mark (gcons (patterns_tree a) (patterns_tree b))
-  condition_tree (outside a b) = gcons second_mark (gcons (patterns_tree a) (patterns_tree b))
-  condition_tree (negated c) = gcons third_mark (condition_tree c)
-  condition_tree (all cs) = gcons fourth_mark (conditions_tree cs)
-  condition_tree (any cs) = gcons fifth_mark (conditions_tree cs)
+  condition_tree (compared w a b) = gcons first_mark (gcons (comparing_tree w) (gcons (patterns_tree a) (patterns_tree b)))
+  condition_tree (negated c) = gcons second_mark (condition_tree c)
+  condition_tree (combined w cs) = gcons third_mark (gcons (joining_tree w) (conditions_tree cs))
 
   pub conditions_tree : Conditions → Gv
   conditions_tree no_condition = gnil
@@ -77,37 +89,22 @@ abbrev mutual
 
 mutual
   pub condition_tree-one : (c d : Condition) → condition_tree c ≡ condition_tree d → c ≡ d
-  condition_tree-one (within a b) (within a' b') e =
+  condition_tree-one (compared w a b) (compared w' a' b') e =
+      let o : w ≡ w' = comparing_tree-one w w' cc in
       let p : a ≡ a' = patterns_tree-one a a' cc in
       let q : b ≡ b' = patterns_tree-one b b' cc in
-      λ i. within (p i) (q i)
-  condition_tree-one (outside a b) (outside a' b') e =
-      let p : a ≡ a' = patterns_tree-one a a' cc in
-      let q : b ≡ b' = patterns_tree-one b b' cc in
-      λ i. outside (p i) (q i)
+      λ i. compared (o i) (p i) (q i)
   condition_tree-one (negated c) (negated d) e = ap negated (condition_tree-one c d cc)
-  condition_tree-one (all cs) (all ds) e = ap all (conditions_tree-one cs ds cc)
-  condition_tree-one (any cs) (any ds) e = ap any (conditions_tree-one cs ds cc)
-  condition_tree-one (within a b) (outside a' b') e = absurd cc
-  condition_tree-one (within a b) (negated d) e = absurd cc
-  condition_tree-one (within a b) (all ds) e = absurd cc
-  condition_tree-one (within a b) (any ds) e = absurd cc
-  condition_tree-one (outside a b) (within a' b') e = absurd cc
-  condition_tree-one (outside a b) (negated d) e = absurd cc
-  condition_tree-one (outside a b) (all ds) e = absurd cc
-  condition_tree-one (outside a b) (any ds) e = absurd cc
-  condition_tree-one (negated c) (within a' b') e = absurd cc
-  condition_tree-one (negated c) (outside a' b') e = absurd cc
-  condition_tree-one (negated c) (all ds) e = absurd cc
-  condition_tree-one (negated c) (any ds) e = absurd cc
-  condition_tree-one (all cs) (within a' b') e = absurd cc
-  condition_tree-one (all cs) (outside a' b') e = absurd cc
-  condition_tree-one (all cs) (negated d) e = absurd cc
-  condition_tree-one (all cs) (any ds) e = absurd cc
-  condition_tree-one (any cs) (within a' b') e = absurd cc
-  condition_tree-one (any cs) (outside a' b') e = absurd cc
-  condition_tree-one (any cs) (negated d) e = absurd cc
-  condition_tree-one (any cs) (all ds) e = absurd cc
+  condition_tree-one (combined w cs) (combined w' ds) e =
+      let o : w ≡ w' = joining_tree-one w w' cc in
+      let p : cs ≡ ds = conditions_tree-one cs ds cc in
+      λ i. combined (o i) (p i)
+  condition_tree-one (compared w a b) (negated d) e = absurd cc
+  condition_tree-one (compared w a b) (combined w' ds) e = absurd cc
+  condition_tree-one (negated c) (compared w' a' b') e = absurd cc
+  condition_tree-one (negated c) (combined w' ds) e = absurd cc
+  condition_tree-one (combined w cs) (compared w' a' b') e = absurd cc
+  condition_tree-one (combined w cs) (negated d) e = absurd cc
 
   pub conditions_tree-one : (cs ds : Conditions) → conditions_tree cs ≡ conditions_tree ds → cs ≡ ds
   conditions_tree-one no_condition no_condition e = refl

@@ -8,15 +8,22 @@ use Rattle.qs_pattern.specs.Patterns.{Patterns, patterns, cells, variables_in, A
 use Rattle.qs_pattern.specs.Substitutions.{Substitution}
 use Rattle.qs_pattern.specs.Instances.{inst, IsCovered}
 
--- A condition: each tree of the one list is in the other (`-DANS-`); none is (`-HORS-`); not (`-NON-`); all of several
--- (`-ET-`); some of several (`-OU-`).
+-- How two lists of trees are compared: each tree of the first is in the second (`-DANS-`), or none is (`-HORS-`). And
+-- how conditions are joined: all of them hold (`-ET-`), or any of them does (`-OU-`).
+pub data Comparing : Type 0 where
+  within : Comparing
+  outside : Comparing
+
+pub data Joining : Type 0 where
+  all : Joining
+  any : Joining
+
+-- A condition: two lists of patterns compared; not (`-NON-`) another; several joined.
 mutual
   pub data Condition : Type 0 where
-    within : (a b : Patterns) → Condition
-    outside : (a b : Patterns) → Condition
+    compared : (word : Comparing) (a b : Patterns) → Condition
     negated : (member : Condition) → Condition
-    all : (members : Conditions) → Condition
-    any : (members : Conditions) → Condition
+    combined : (word : Joining) (members : Conditions) → Condition
 
   -- A list of conditions.
   pub data Conditions : Type 0 where
@@ -26,11 +33,11 @@ mutual
 -- The condition of the code as such a condition.
 abbrev mutual
   pub condition_of : Cond → Condition
-  condition_of (Within a b) = within (patterns a.items) (patterns b.items)
-  condition_of (Outside a b) = outside (patterns a.items) (patterns b.items)
+  condition_of (Within a b) = compared within (patterns a.items) (patterns b.items)
+  condition_of (Outside a b) = compared outside (patterns a.items) (patterns b.items)
   condition_of (Not' place member) = negated (condition_of member)
-  condition_of (All' shape members) = all (row_conditions members)
-  condition_of (Any' shape members) = any (row_conditions members)
+  condition_of (All' shape members) = combined all (row_conditions members)
+  condition_of (Any' shape members) = combined any (row_conditions members)
 
   pub row_conditions : {m : _} → Row_of-Cond m → Conditions
   row_conditions end_of-Cond = no_condition
@@ -40,14 +47,18 @@ abbrev pub conditions : List Cond → Conditions
 conditions [] = no_condition
 conditions (c ∷ cs) = condition_first (condition_of c) (conditions cs)
 
+-- When two lists of trees are as the word says.
+abbrev pub Compares : Comparing → List Tree → List Tree → Type 0
+Compares within ts us = (t : Tree) → t ∈ ts → t ∈ us
+Compares outside ts us = (t : Tree) → t ∈ ts → t ∈ us → ⊥
+
 -- When a condition holds under a substitution.
 abbrev mutual
   pub Holds : Condition → Substitution → Type 0
-  Holds (within a b) s = (t : Tree) → t ∈ inst s a → t ∈ inst s b
-  Holds (outside a b) s = (t : Tree) → t ∈ inst s a → t ∈ inst s b → ⊥
+  Holds (compared word a b) s = Compares word (inst s a) (inst s b)
   Holds (negated c) s = Holds c s → ⊥
-  Holds (all cs) s = AllHold cs s
-  Holds (any cs) s = SomeHolds cs s
+  Holds (combined all cs) s = AllHold cs s
+  Holds (combined any cs) s = SomeHolds cs s
 
   pub AllHold : Conditions → Substitution → Type 0
   AllHold no_condition s = Unit {0}
@@ -62,44 +73,43 @@ abbrev pub HoldsIfGiven : Option Condition → Substitution → Type 0
 HoldsIfGiven None s = Unit {0}
 HoldsIfGiven (Some c) s = Holds c s
 
--- How many labels and variables are written in a condition.
+-- What the lists that a condition compares make together, in the order of the text: `of` tells what each makes, `both`
+-- puts two such things together, and `none` is what no list makes.
 abbrev mutual
-  pub condition_cells : Condition → ℕ
-  condition_cells (within a b) = cells a + cells b
-  condition_cells (outside a b) = cells a + cells b
-  condition_cells (negated c) = condition_cells c
-  condition_cells (all cs) = conditions_cells cs
-  condition_cells (any cs) = conditions_cells cs
+  pub over_lists {ℓ} : {A : Type ℓ} → A → (A → A → A) → (Patterns → A) → Condition → A
+  over_lists none both of (compared word a b) = both (of a) (of b)
+  over_lists none both of (negated c) = over_lists none both of c
+  over_lists none both of (combined word cs) = over_all_lists none both of cs
 
-  pub conditions_cells : Conditions → ℕ
-  conditions_cells no_condition = 0
-  conditions_cells (condition_first c cs) = condition_cells c + conditions_cells cs
+  pub over_all_lists {ℓ} : {A : Type ℓ} → A → (A → A → A) → (Patterns → A) → Conditions → A
+  over_all_lists none both of no_condition = none
+  over_all_lists none both of (condition_first c cs) = both (over_lists none both of c) (over_all_lists none both of cs)
+
+-- P is so of each list that a condition compares, or that several compare.
+abbrev pub EachList : (Patterns → Type 0) → Condition → Type 0
+EachList P c = over_lists (Unit {0}) (λ A B. A × B) P c
+
+abbrev pub EachListOfAll : (Patterns → Type 0) → Conditions → Type 0
+EachListOfAll P cs = over_all_lists (Unit {0}) (λ A B. A × B) P cs
+
+-- How many labels and variables are written in a condition.
+abbrev pub condition_cells : Condition → ℕ
+condition_cells c = over_lists 0 (λ m n. m + n) cells c
 
 -- The variables of a condition, with repetitions.
-abbrev mutual
-  pub condition_variables : Condition → List Var
-  condition_variables (within a b) = variables_in a ++ variables_in b
-  condition_variables (outside a b) = variables_in a ++ variables_in b
-  condition_variables (negated c) = condition_variables c
-  condition_variables (all cs) = conditions_variables cs
-  condition_variables (any cs) = conditions_variables cs
-
-  pub conditions_variables : Conditions → List Var
-  conditions_variables no_condition = []
-  conditions_variables (condition_first c cs) = condition_variables c ++ conditions_variables cs
+abbrev pub condition_variables : Condition → List Var
+condition_variables c = over_lists [] (λ vs ws. vs ++ ws) variables_in c
 
 -- All patterns of a condition are in class.
-abbrev mutual
-  pub IsConditionInClass : Condition → Type 0
-  IsConditionInClass (within a b) = AreInClass a × AreInClass b
-  IsConditionInClass (outside a b) = AreInClass a × AreInClass b
-  IsConditionInClass (negated c) = IsConditionInClass c
-  IsConditionInClass (all cs) = AreConditionsInClass cs
-  IsConditionInClass (any cs) = AreConditionsInClass cs
+abbrev pub IsConditionInClass : Condition → Type 0
+IsConditionInClass c = EachList AreInClass c
 
-  pub AreConditionsInClass : Conditions → Type 0
-  AreConditionsInClass no_condition = Unit {0}
-  AreConditionsInClass (condition_first c cs) = IsConditionInClass c × AreConditionsInClass cs
+-- Each variable of a condition, or of several, has a value of its class.
+abbrev pub IsConditionCovered : Substitution → Condition → Type 0
+IsConditionCovered s c = EachList (IsCovered s) c
+
+abbrev pub AreConditionsCovered : Substitution → Conditions → Type 0
+AreConditionsCovered s cs = EachListOfAll (IsCovered s) cs
 
 -- How many conditions the list has.
 abbrev pub count_conditions : Conditions → ℕ
@@ -109,25 +119,10 @@ count_conditions (condition_first c cs) = count_conditions cs + 1
 -- Where conditions are joined, at least two are: `-ET-` and `-OU-` stand between conditions.
 abbrev mutual
   pub HasEnoughMembers : Condition → Type 0
-  HasEnoughMembers (within a b) = Unit {0}
-  HasEnoughMembers (outside a b) = Unit {0}
+  HasEnoughMembers (compared word a b) = Unit {0}
   HasEnoughMembers (negated c) = HasEnoughMembers c
-  HasEnoughMembers (all cs) = (2 ≤ count_conditions cs) × HaveEnoughMembers cs
-  HasEnoughMembers (any cs) = (2 ≤ count_conditions cs) × HaveEnoughMembers cs
+  HasEnoughMembers (combined word cs) = (2 ≤ count_conditions cs) × HaveEnoughMembers cs
 
   pub HaveEnoughMembers : Conditions → Type 0
   HaveEnoughMembers no_condition = Unit {0}
   HaveEnoughMembers (condition_first c cs) = HasEnoughMembers c × HaveEnoughMembers cs
-
--- Each variable of the condition has a value of its class.
-abbrev mutual
-  pub IsConditionCovered : Substitution → Condition → Type 0
-  IsConditionCovered s (within a b) = IsCovered s a × IsCovered s b
-  IsConditionCovered s (outside a b) = IsCovered s a × IsCovered s b
-  IsConditionCovered s (negated c) = IsConditionCovered s c
-  IsConditionCovered s (all cs) = AreConditionsCovered s cs
-  IsConditionCovered s (any cs) = AreConditionsCovered s cs
-
-  pub AreConditionsCovered : Substitution → Conditions → Type 0
-  AreConditionsCovered s no_condition = Unit {0}
-  AreConditionsCovered s (condition_first c cs) = IsConditionCovered s c × AreConditionsCovered s cs

@@ -5,6 +5,7 @@ pub mod Patterns
 pub mod Substitutions
 pub mod Instances
 pub mod Conditions
+pub mod Limits
 pub mod Rules
 pub mod Named
 pub mod Codes

@@ -3,7 +3,7 @@ use Rattle.std.specs.Prelude.{ℕ, ◌<◌, Option, Some, None}
 use Rattle.qs_pattern.specs.declared.pattern.Head.{Head}
 use Rattle.qs_pattern.specs.declared.pattern.Head.TheVariants as head
 use Rattle.qs_pattern.specs.Patterns.{Patterns, no_pattern, node_first, tree_var_first, forest_var_first}
-use Rattle.qs_pattern.specs.Conditions.{Condition, Conditions, within, outside, negated, all, any, no_condition, condition_first}
+use Rattle.qs_pattern.specs.Conditions.{Condition, Conditions, EachList, EachListOfAll}
 
 -- Each label in these patterns is one of the first n.
 abbrev pub IsHeadNamed : ℕ → Head → Type 0
@@ -16,18 +16,12 @@ ArePatternsNamed n (node_first h kids behind) = IsHeadNamed n h × ArePatternsNa
 ArePatternsNamed n (tree_var_first v behind) = ArePatternsNamed n behind
 ArePatternsNamed n (forest_var_first v behind) = ArePatternsNamed n behind
 
--- Each label in this condition is one of the first n; so it is where there is none.
-abbrev mutual
-  pub IsConditionNamed : ℕ → Condition → Type 0
-  IsConditionNamed n (within a b) = ArePatternsNamed n a × ArePatternsNamed n b
-  IsConditionNamed n (outside a b) = ArePatternsNamed n a × ArePatternsNamed n b
-  IsConditionNamed n (negated c) = IsConditionNamed n c
-  IsConditionNamed n (all cs) = AreConditionsNamed n cs
-  IsConditionNamed n (any cs) = AreConditionsNamed n cs
+-- Each label in this condition, or in these, is one of the first n; so it is where there is none.
+abbrev pub IsConditionNamed : ℕ → Condition → Type 0
+IsConditionNamed n c = EachList (ArePatternsNamed n) c
 
-  pub AreConditionsNamed : ℕ → Conditions → Type 0
-  AreConditionsNamed n no_condition = Unit {0}
-  AreConditionsNamed n (condition_first c cs) = IsConditionNamed n c × AreConditionsNamed n cs
+abbrev pub AreConditionsNamed : ℕ → Conditions → Type 0
+AreConditionsNamed n cs = EachListOfAll (ArePatternsNamed n) cs
 
 abbrev pub IsNamedIfGiven : ℕ → Option Condition → Type 0
 IsNamedIfGiven n None = Unit {0}

@@ -6,7 +6,7 @@ ghost use Rattle.qs_tree.specs.Trees.{Tree};
 ghost use Rattle.qs_tree.specs.Cells.{tree_of, trees_of};
 ghost use Rattle.qs_pattern.specs.Patterns.{patterns};
 ghost use Rattle.qs_pattern.specs.Instances.{IsCovered};
-ghost use Rattle.qs_pattern.specs.Conditions.{within, outside, condition_of, conditions, Holds, AllHold, SomeHolds, IsConditionCovered, AreConditionsCovered};
+ghost use Rattle.qs_pattern.specs.Conditions.{within, outside, compared, condition_of, conditions, Holds, AllHold, SomeHolds, IsConditionCovered, AreConditionsCovered};
 
 use crate::condition::Cond;
 use crate::instances::forest_of;
@@ -61,7 +61,7 @@ fn are_none_in(some: ForestRef<'_>, list: ForestRef<'_>) -> bool
 fn is_within(alloc: Global, a: &[Pattern], b: &[Pattern], subst: &Subst) -> Result<bool, AllocError>
     requires a { IsCovered subst.now (patterns a.now) }
     requires b { IsCovered subst.now (patterns b.now) }
-    ensures { IfOk result (λ r. IsTrue r ↔ Holds (within (patterns a.now) (patterns b.now)) subst.now) }
+    ensures { IfOk result (λ r. IsTrue r ↔ Holds (compared within (patterns a.now) (patterns b.now)) subst.now) }
 {
     let some = forest_of(alloc, a, subst)?;
     let list = forest_of(alloc, b, subst)?;
@@ -77,7 +77,7 @@ fn is_outside(
 ) -> Result<bool, AllocError>
     requires a { IsCovered subst.now (patterns a.now) }
     requires b { IsCovered subst.now (patterns b.now) }
-    ensures { IfOk result (λ r. IsTrue r ↔ Holds (outside (patterns a.now) (patterns b.now)) subst.now) }
+    ensures { IfOk result (λ r. IsTrue r ↔ Holds (compared outside (patterns a.now) (patterns b.now)) subst.now) }
 {
     let some = forest_of(alloc, a, subst)?;
     let list = forest_of(alloc, b, subst)?;

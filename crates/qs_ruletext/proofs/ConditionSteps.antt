@@ -7,11 +7,11 @@ use Rattle.qs_lex.specs.Expecting.{same_sort, NextIsNo, Leads}
 use Rattle.qs_lex.proofs.Going.{leads_on, leads_part, leads_sequence, leads_this, leads_other, leads_without, leads_with}
 use Rattle.qs_pattern.specs.declared.condition.Cond.{Cond}
 use Rattle.qs_pattern.specs.Patterns.{Patterns}
-use Rattle.qs_pattern.specs.Conditions.{Condition, Conditions, within, outside, negated, all, any, no_condition, condition_first, condition_of, conditions}
+use Rattle.qs_pattern.specs.Conditions.{within, outside, all, any, Condition, Conditions, compared, negated, combined, no_condition, condition_first, condition_of, conditions}
 use Rattle.qs_ruletext.specs.Grammar.{Part, list, cond, neg, prim, line}
 use Rattle.qs_ruletext.specs.declared.cursor.Halt.{Halt}
 use Rattle.qs_ruletext.specs.declared.cursor.Halt.TheVariants.{Syntax}
-use Rattle.qs_ruletext.specs.Reading.{any_of, all_of, ReadsList, ReadsCond, reads_cond, ReadsMoreConjs, no_more_conjs, one_more_conj, ReadsConj, reads_conj, ReadsMoreNegs, no_more_negs, one_more_neg, ReadsNeg, not_negated, reads_negated, ReadsPrim, reads_group, reads_within, reads_outside}
+use Rattle.qs_ruletext.specs.Reading.{any_of, all_of, ReadsList, ReadsCond, reads_cond, ReadsMoreConjs, no_more_conjs, one_more_conj, ReadsConj, reads_conj, ReadsMoreNegs, no_more_negs, one_more_neg, ReadsNeg, not_negated, reads_negated, ReadsPrim, reads_group, reads_compared}
 use Rattle.qs_ruletext.specs.Rules.{KeepsNames}
 use Rattle.qs_ruletext.specs.Cursors.{begins_item, begins_prim, IsNext, Passes, Ends, IsRead}
 use Rattle.qs_ruletext.proofs.Tables.{ok, next_is_no, token, readable_rest, next_length, ends_on, ends_here}
@@ -75,7 +75,7 @@ pub ends_in_second_outside : (text : List ℕ) (old new : List (List ℕ)) (Read
 ends_in_second_outside text old new Reads ts end after halt found n e =
     ends_on Comparison (part list) ListEnds ListEnds ts after halt (λ behind f. (behind, f, to_second_outside behind ts end after found.passes n)) e
 
-pub read_within : (text : List ℕ) (old middle new : List (List ℕ)) (ts end after rest : List Token) (a b : Patterns) (c : Condition) → c ≡ within a b
+pub read_within : (text : List ℕ) (old middle new : List (List ℕ)) (ts end after rest : List Token) (a b : Patterns) (c : Condition) → c ≡ compared within a b
     → IsRead (part list) ListEnds (λ later. ReadsList later text ts a end) text ts end old middle → IsNext (the_word Dans) end after
     → KeepsNames middle new → IsRead (part list) ListEnds (λ later. ReadsList later text after b rest) text after rest middle new
     → IsRead Comparison ListEnds (λ later. ReadsPrim later text ts c rest) text ts rest old new
@@ -84,7 +84,7 @@ read_within text old middle new ts end after rest a b c e first n keeps second =
     record {
       reads = λ later k.
           let left : ReadsList later text ts a (n.0 ∷ after) = subst (λ us. ReadsList later text ts a us) n.1 (first.reads later (λ j x i. k j x (keeps j x i))) in
-          subst (λ d. ReadsPrim later text ts d rest) (sym e) (reads_within left n.2 (second.reads later k));
+          subst (λ d. ReadsPrim later text ts d rest) (sym e) (reads_compared {word = within} left n.2 (second.reads later k));
       passes = λ behind f. leads_on (to_second_within behind ts end after first.passes n) (second.passes behind f);
       readable = second.readable;
       names = names_on text ts end rest old middle new first.names (names_on text end after rest middle middle new (sign_names (the_word Dans) text end after middle refl n) second.names);
@@ -92,7 +92,7 @@ read_within text old middle new ts end after rest a b c e first n keeps second =
       no_longer = omega (arith, shorter, first.no_longer, second.no_longer);
     }
 
-pub read_outside : (text : List ℕ) (old middle new : List (List ℕ)) (ts end after rest : List Token) (a b : Patterns) (c : Condition) → c ≡ outside a b
+pub read_outside : (text : List ℕ) (old middle new : List (List ℕ)) (ts end after rest : List Token) (a b : Patterns) (c : Condition) → c ≡ compared outside a b
     → IsRead (part list) ListEnds (λ later. ReadsList later text ts a end) text ts end old middle → IsNext (the_word Hors) end after
     → KeepsNames middle new → IsRead (part list) ListEnds (λ later. ReadsList later text after b rest) text after rest middle new
     → IsRead Comparison ListEnds (λ later. ReadsPrim later text ts c rest) text ts rest old new
@@ -101,7 +101,7 @@ read_outside text old middle new ts end after rest a b c e first n keeps second 
     record {
       reads = λ later k.
           let left : ReadsList later text ts a (n.0 ∷ after) = subst (λ us. ReadsList later text ts a us) n.1 (first.reads later (λ j x i. k j x (keeps j x i))) in
-          subst (λ d. ReadsPrim later text ts d rest) (sym e) (reads_outside left n.2 (second.reads later k));
+          subst (λ d. ReadsPrim later text ts d rest) (sym e) (reads_compared {word = outside} left n.2 (second.reads later k));
       passes = λ behind f. leads_on (to_second_outside behind ts end after first.passes n) (second.passes behind f);
       readable = second.readable;
       names = names_on text ts end rest old middle new first.names (names_on text end after rest middle middle new (sign_names (the_word Hors) text end after middle refl n) second.names);
@@ -273,10 +273,10 @@ cond_last names text tokens rest first whole more e completes =
     subst (λ c. ReadsCond names text tokens c rest) (sym (e ∙ ap (any_of first) (sym (followed-nil more)))) (completes no_condition rest no_more_conjs)
 
 -- one member, or several
-pub any_of_several : (first : Condition) (more : List Cond) → 1 ≤ length more → any_of first (conditions more) ≡ any (condition_first first (conditions more))
+pub any_of_several : (first : Condition) (more : List Cond) → 1 ≤ length more → any_of first (conditions more) ≡ combined any (condition_first first (conditions more))
 any_of_several first [] some = absurd (omega (arith, some))
 any_of_several first (c ∷ more) some = refl
 
-pub all_of_several : (first : Condition) (more : List Cond) → 1 ≤ length more → all_of first (conditions more) ≡ all (condition_first first (conditions more))
+pub all_of_several : (first : Condition) (more : List Cond) → 1 ≤ length more → all_of first (conditions more) ≡ combined all (condition_first first (conditions more))
 all_of_several first [] some = absurd (omega (arith, some))
 all_of_several first (c ∷ more) some = refl

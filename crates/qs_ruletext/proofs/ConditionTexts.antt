@@ -5,7 +5,7 @@ use Rattle.qs_tree.proofs.Kept.{kept-further}
 use Rattle.std.proofs.lemmas.List.{drop_more, drop_all}
 use Rattle.std.specs.List.{flat_map}
 use Rattle.qs_pattern.specs.declared.condition.Cond.{Cond, All, Any}
-use Rattle.qs_pattern.specs.Conditions.{Condition, Conditions, all, any, condition_of, conditions}
+use Rattle.qs_pattern.specs.Conditions.{Condition, Conditions, all, any, combined, condition_of, conditions}
 use Rattle.qs_pattern.proofs.ConditionLemmas.{condition-All, condition-Any}
 use Rattle.qs_pattern.specs.Named.{IsConditionNamed, AreConditionsNamed}
 use Rattle.qs_ruletext.specs.Texts.{joined, word_of, tightness, member_text, member_texts, condition_text}
@@ -71,8 +71,8 @@ module _ (ms : Vec Cond Global) (c : Cond) (is : (c ≡ All ms) ⊎ (c ≡ Any m
       → condition_text names (condition_of c) ≡ joined word (member_texts names outer (conditions ms.items))
   members_text names word outer w o =
       elim is [
-        | inl e ↦ members_of names word outer (condition_of c) (all (conditions ms.items)) (conditions ms.items) (ap condition_of e ∙ condition-All ms) refl w o
-        | inr e ↦ members_of names word outer (condition_of c) (any (conditions ms.items)) (conditions ms.items) (ap condition_of e ∙ condition-Any ms) refl w o
+        | inl e ↦ members_of names word outer (condition_of c) (combined all (conditions ms.items)) (conditions ms.items) (ap condition_of e ∙ condition-All ms) refl w o
+        | inr e ↦ members_of names word outer (condition_of c) (combined any (conditions ms.items)) (conditions ms.items) (ap condition_of e ∙ condition-Any ms) refl w o
       ]
 
 -- an error further on

@@ -3,13 +3,15 @@ use Rattle.std.proofs.Common.{◌≡◌, ℕ, ◌≤◌, refl, sym, ap, ◌∙�
 use Rattle.std.specs.List.{flat_map}
 use Rattle.qs_lex.specs.declared.token.Token.{Token}
 use Rattle.qs_lex.specs.declared.token.Kind.TheVariants.{Opening, Closing, Word as a_word}
-use Rattle.qs_lex.specs.declared.token.Word.TheVariants.{Dans, Hors, Et, Ou, Non}
+use Rattle.qs_lex.specs.declared.token.Word.{Word}
+use Rattle.qs_lex.specs.declared.token.Word.TheVariants.{Et, Ou, Non}
+use Rattle.qs_lex.specs.Spelling.{between_dashes, name_of}
 use Rattle.qs_lex.specs.Grammar.{sort_of}
 use Rattle.qs_pattern.specs.Patterns.{Patterns, count, AreInClass}
-use Rattle.qs_pattern.specs.Conditions.{Condition, Conditions, within, outside, negated, all, any, no_condition, condition_first, count_conditions, IsConditionInClass, AreConditionsInClass, HasEnoughMembers, HaveEnoughMembers}
+use Rattle.qs_pattern.specs.Conditions.{Comparing, all, any, Condition, Conditions, compared, negated, combined, no_condition, condition_first, count_conditions, IsConditionInClass, EachListOfAll, HasEnoughMembers, HaveEnoughMembers}
 use Rattle.qs_pattern.specs.Named.{ArePatternsNamed, IsConditionNamed, AreConditionsNamed}
-use Rattle.qs_ruletext.specs.Reading.{ReadsList, any_of, all_of, ReadsCond, reads_cond, ReadsMoreConjs, no_more_conjs, one_more_conj, ReadsConj, reads_conj, ReadsMoreNegs, no_more_negs, one_more_neg, ReadsNeg, not_negated, reads_negated, ReadsPrim, reads_group, reads_within, reads_outside}
-use Rattle.qs_ruletext.specs.Texts.{list_text, in_parentheses, member_text, member_texts, condition_text}
+use Rattle.qs_ruletext.specs.Reading.{comparing_word, ReadsList, any_of, all_of, ReadsCond, reads_cond, ReadsMoreConjs, no_more_conjs, one_more_conj, ReadsConj, reads_conj, ReadsMoreNegs, no_more_negs, one_more_neg, ReadsNeg, not_negated, reads_negated, ReadsPrim, reads_group, reads_compared}
+use Rattle.qs_ruletext.specs.Texts.{list_text, in_parentheses, member_text, member_texts, condition_text, spaced_word}
 use Rattle.qs_ruletext.specs.Written.{AreOnOneLine, HasFullLists, HaveFullLists}
 use Rattle.qs_ruletext.proofs.ReadBack.{Goes, IsOne, IsNone, Both, both, turned, nothing, space, token, spaced}
 use Rattle.qs_ruletext.proofs.HeadsReadBack.{Closes}
@@ -23,19 +25,23 @@ ors_close : (texts : List (List ℕ)) (left : List ℕ) → Closes left → Clos
 ors_close [] left c = c
 ors_close (t ∷ ts) left c = refl
 
+-- a word between spaces
+word_goes : {text : List ℕ} (word : Word) (left : List ℕ) → Goes text (IsOne text (a_word word) (between_dashes (name_of word))) (spaced_word word) left
+word_goes {text} word left = spaced text (a_word word) (between_dashes (name_of word)) left refl tt refl
+
 -- what is asked of a condition, so that it can be written
 abbrev pub IsWritable : ℕ → Condition → Type 0
 IsWritable n c = IsConditionNamed n c × IsConditionInClass c × HasEnoughMembers c × HasFullLists c
 
 abbrev pub AreWritable : ℕ → Conditions → Type 0
-AreWritable n cs = AreConditionsNamed n cs × AreConditionsInClass cs × HaveEnoughMembers cs × HaveFullLists cs
+AreWritable n cs = AreConditionsNamed n cs × EachListOfAll AreInClass cs × HaveEnoughMembers cs × HaveFullLists cs
 
 -- at least two make one of several
-all_of_several : (c : Condition) (cs : Conditions) → 2 ≤ count_conditions (condition_first c cs) → all_of c cs ≡ all (condition_first c cs)
+all_of_several : (c : Condition) (cs : Conditions) → 2 ≤ count_conditions (condition_first c cs) → all_of c cs ≡ combined all (condition_first c cs)
 all_of_several c no_condition few = absurd (omega arith)
 all_of_several c (condition_first d ds) several = refl
 
-any_of_several : (c : Condition) (cs : Conditions) → 2 ≤ count_conditions (condition_first c cs) → any_of c cs ≡ any (condition_first c cs)
+any_of_several : (c : Condition) (cs : Conditions) → 2 ≤ count_conditions (condition_first c cs) → any_of c cs ≡ combined any (condition_first c cs)
 any_of_several c no_condition few = absurd (omega arith)
 any_of_several c (condition_first d ds) several = refl
 
@@ -49,18 +55,16 @@ module _ (names : List (List ℕ)) (text : List ℕ) where
 
   -- the tightest part of the grammar that each condition is without parentheses
   abbrev IsReadAs : Condition → List Token → List Token → Type 0
-  IsReadAs (within a b) ts rest = ReadsPrim names text ts (within a b) rest
-  IsReadAs (outside a b) ts rest = ReadsPrim names text ts (outside a b) rest
+  IsReadAs (compared word a b) ts rest = ReadsPrim names text ts (compared word a b) rest
   IsReadAs (negated c) ts rest = ReadsNeg names text ts (negated c) rest
-  IsReadAs (all cs) ts rest = ReadsConj names text ts (all cs) rest
-  IsReadAs (any cs) ts rest = ReadsCond names text ts (any cs) rest
+  IsReadAs (combined all cs) ts rest = ReadsConj names text ts (combined all cs) rest
+  IsReadAs (combined any cs) ts rest = ReadsCond names text ts (combined any cs) rest
 
   as_cond : (c : Condition) (ts rest : List Token) → IsReadAs c ts rest → ReadsCond names text ts c rest
-  as_cond (within a b) ts rest r = cond_of_conj (within a b) (conj_of_neg (within a b) (not_negated r))
-  as_cond (outside a b) ts rest r = cond_of_conj (outside a b) (conj_of_neg (outside a b) (not_negated r))
+  as_cond (compared word a b) ts rest r = cond_of_conj (compared word a b) (conj_of_neg (compared word a b) (not_negated r))
   as_cond (negated c) ts rest r = cond_of_conj (negated c) (conj_of_neg (negated c) r)
-  as_cond (all cs) ts rest r = cond_of_conj (all cs) r
-  as_cond (any cs) ts rest r = r
+  as_cond (combined all cs) ts rest r = cond_of_conj (combined all cs) r
+  as_cond (combined any cs) ts rest r = r
 
   abbrev pub ConditionGoes : Condition → Type 0
   ConditionGoes c = (left : List ℕ) → Closes left → Goes text (IsReadAs c) (condition_text names c) left
@@ -81,28 +85,25 @@ module _ (names : List (List ℕ)) (text : List ℕ) where
 
   -- a member, with parentheses where it isn't tighter
   prim_member : (c : Condition) → ConditionGoes c → (left : List ℕ) → Closes left → Goes text (λ ts rest. ReadsPrim names text ts c rest) (member_text 3 c (condition_text names c)) left
-  prim_member (within a b) goes left closes = goes left closes
-  prim_member (outside a b) goes left closes = goes left closes
+  prim_member (compared word a b) goes left closes = goes left closes
   prim_member (negated c) goes left closes = group_goes (negated c) goes left
-  prim_member (all cs) goes left closes = group_goes (all cs) goes left
-  prim_member (any cs) goes left closes = group_goes (any cs) goes left
+  prim_member (combined all cs) goes left closes = group_goes (combined all cs) goes left
+  prim_member (combined any cs) goes left closes = group_goes (combined any cs) goes left
 
   neg_member : (c : Condition) → ConditionGoes c → (left : List ℕ) → Closes left → Goes text (λ ts rest. ReadsNeg names text ts c rest) (member_text 2 c (condition_text names c)) left
-  neg_member (within a b) goes left closes = neg_of_prim (within a b) _ left (goes left closes)
-  neg_member (outside a b) goes left closes = neg_of_prim (outside a b) _ left (goes left closes)
+  neg_member (compared word a b) goes left closes = neg_of_prim (compared word a b) _ left (goes left closes)
   neg_member (negated c) goes left closes = goes left closes
-  neg_member (all cs) goes left closes = neg_of_prim (all cs) _ left (group_goes (all cs) goes left)
-  neg_member (any cs) goes left closes = neg_of_prim (any cs) _ left (group_goes (any cs) goes left)
+  neg_member (combined all cs) goes left closes = neg_of_prim (combined all cs) _ left (group_goes (combined all cs) goes left)
+  neg_member (combined any cs) goes left closes = neg_of_prim (combined any cs) _ left (group_goes (combined any cs) goes left)
 
   conj_of_negs : (c : Condition) (piece left : List ℕ) → Goes text (λ ts rest. ReadsNeg names text ts c rest) piece left → Goes text (λ ts rest. ReadsConj names text ts c rest) piece left
   conj_of_negs c piece left go = turned text piece left (λ ts rest r. conj_of_neg c r) go
 
   conj_member : (c : Condition) → ConditionGoes c → (left : List ℕ) → Closes left → Goes text (λ ts rest. ReadsConj names text ts c rest) (member_text 1 c (condition_text names c)) left
-  conj_member (within a b) goes left closes = conj_of_negs (within a b) _ left (neg_of_prim (within a b) _ left (goes left closes))
-  conj_member (outside a b) goes left closes = conj_of_negs (outside a b) _ left (neg_of_prim (outside a b) _ left (goes left closes))
+  conj_member (compared word a b) goes left closes = conj_of_negs (compared word a b) _ left (neg_of_prim (compared word a b) _ left (goes left closes))
   conj_member (negated c) goes left closes = conj_of_negs (negated c) _ left (goes left closes)
-  conj_member (all cs) goes left closes = goes left closes
-  conj_member (any cs) goes left closes = conj_of_negs (any cs) _ left (neg_of_prim (any cs) _ left (group_goes (any cs) goes left))
+  conj_member (combined all cs) goes left closes = goes left closes
+  conj_member (combined any cs) goes left closes = conj_of_negs (combined any cs) _ left (neg_of_prim (combined any cs) _ left (group_goes (combined any cs) goes left))
 
   -- several members
   abbrev NegsGo : Conditions → Type 0
@@ -139,7 +140,7 @@ module _ (names : List (List ℕ)) (text : List ℕ) where
       (conj_member c goes (others ++ left) (ors_close (member_texts names 1 cs) left closes)))
       (more left closes))
 
-  all_goes : (c : Condition) (cs : Conditions) → 2 ≤ count_conditions (condition_first c cs) → ConditionGoes c → NegsGo cs → ConditionGoes (all (condition_first c cs))
+  all_goes : (c : Condition) (cs : Conditions) → 2 ≤ count_conditions (condition_first c cs) → ConditionGoes c → NegsGo cs → ConditionGoes (combined all (condition_first c cs))
   all_goes c cs several goes more left closes =
       let first : List ℕ = member_text 2 c (condition_text names c) in
       let others : List ℕ = flat_map (λ t. codes " -ET- " ++ t) (member_texts names 2 cs) in
@@ -147,7 +148,7 @@ module _ (names : List (List ℕ)) (text : List ℕ) where
       (λ ts rest x. subst (λ d. ReadsConj names text ts d rest) (all_of_several c cs several) (reads_conj x.1 x.2))
       (both text first others left (neg_member c goes (others ++ left) (ands_close (member_texts names 2 cs) left closes)) (more left closes))
 
-  any_goes : (c : Condition) (cs : Conditions) → 2 ≤ count_conditions (condition_first c cs) → ConditionGoes c → ConjsGo cs → ConditionGoes (any (condition_first c cs))
+  any_goes : (c : Condition) (cs : Conditions) → 2 ≤ count_conditions (condition_first c cs) → ConditionGoes c → ConjsGo cs → ConditionGoes (combined any (condition_first c cs))
   any_goes c cs several goes more left closes =
       let first : List ℕ = member_text 1 c (condition_text names c) in
       let others : List ℕ = flat_map (λ t. codes " -OU- " ++ t) (member_texts names 1 cs) in
@@ -167,38 +168,28 @@ module _ (names : List (List ℕ)) (text : List ℕ) where
       (both text (codes "-NON- ") member left (negation_goes (member ++ left)) (prim_member c goes left closes))
 
   -- two lists with a word between them
-  module _ (line : AreOnOneLine names) (a b : Patterns) (named : ArePatternsNamed (length names) a × ArePatternsNamed (length names) b) (class : AreInClass a × AreInClass b) (full : (1 ≤ count a) × (1 ≤ count b)) where
-    within_goes : ConditionGoes (within a b)
-    within_goes left closes =
-        let behind : List ℕ = codes " -DANS- " ++ list_text names b in
+  module _ (line : AreOnOneLine names) (word : Comparing) (a b : Patterns) (named : ArePatternsNamed (length names) a × ArePatternsNamed (length names) b) (class : AreInClass a × AreInClass b) (full : (1 ≤ count a) × (1 ≤ count b)) where
+    compared_goes : ConditionGoes (compared word a b)
+    compared_goes left closes =
+        let between : List ℕ = spaced_word (comparing_word word) in
+        let behind : List ℕ = between ++ list_text names b in
         turned text (list_text names a ++ behind) left
-        (λ ts rest x. reads_within (subst (λ us. ReadsList names text ts a us) x.2.1.1 x.1) (ap sort_of x.2.1.2) x.2.2)
+        (λ ts rest x. reads_compared {word = word} (subst (λ us. ReadsList names text ts a us) x.2.1.1 x.1) (ap sort_of x.2.1.2) x.2.2)
         (both text (list_text names a) behind left
         ((lists_go names text line a named.0 class.0).1 (behind ++ left) refl full.0)
-        (both text (codes " -DANS- ") (list_text names b) left (spaced text (a_word Dans) (codes "-DANS-") (list_text names b ++ left) refl tt refl)
-        ((lists_go names text line b named.1 class.1).1 left closes full.1)))
-
-    outside_goes : ConditionGoes (outside a b)
-    outside_goes left closes =
-        let behind : List ℕ = codes " -HORS- " ++ list_text names b in
-        turned text (list_text names a ++ behind) left
-        (λ ts rest x. reads_outside (subst (λ us. ReadsList names text ts a us) x.2.1.1 x.1) (ap sort_of x.2.1.2) x.2.2)
-        (both text (list_text names a) behind left
-        ((lists_go names text line a named.0 class.0).1 (behind ++ left) refl full.0)
-        (both text (codes " -HORS- ") (list_text names b) left (spaced text (a_word Hors) (codes "-HORS-") (list_text names b ++ left) refl tt refl)
+        (both text between (list_text names b) left (word_goes (comparing_word word) (list_text names b ++ left))
         ((lists_go names text line b named.1 class.1).1 left closes full.1)))
 
 module _ (names : List (List ℕ)) (text : List ℕ) (line : AreOnOneLine names) where
   mutual
     condition_goes : (c : Condition) → IsWritable (length names) c → ConditionGoes names text c
-    condition_goes (within a b) w = within_goes names text line a b w.0 w.1 w.3
-    condition_goes (outside a b) w = outside_goes names text line a b w.0 w.1 w.3
+    condition_goes (compared word a b) w = compared_goes names text line word a b w.0 w.1 w.3
     condition_goes (negated c) w = negated_goes names text c (condition_goes c w)
-    condition_goes (all no_condition) w = absurd (omega (arith, w.2.0))
-    condition_goes (all (condition_first c cs)) w =
+    condition_goes (combined all no_condition) w = absurd (omega (arith, w.2.0))
+    condition_goes (combined all (condition_first c cs)) w =
         all_goes names text c cs w.2.0 (condition_goes c (w.0.0, w.1.0, w.2.1.0, w.3.0)) (negs_go cs (w.0.1, w.1.1, w.2.1.1, w.3.1))
-    condition_goes (any no_condition) w = absurd (omega (arith, w.2.0))
-    condition_goes (any (condition_first c cs)) w =
+    condition_goes (combined any no_condition) w = absurd (omega (arith, w.2.0))
+    condition_goes (combined any (condition_first c cs)) w =
         any_goes names text c cs w.2.0 (condition_goes c (w.0.0, w.1.0, w.2.1.0, w.3.0)) (conjs_go cs (w.0.1, w.1.1, w.2.1.1, w.3.1))
 
     negs_go : (cs : Conditions) → AreWritable (length names) cs → NegsGo names text cs

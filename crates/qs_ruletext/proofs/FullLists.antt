@@ -3,7 +3,7 @@ use Rattle.std.proofs.Common.{ℕ, ◌≤◌, List, arith}
 use Rattle.qs_lex.specs.declared.token.Token.{Token}
 use Rattle.qs_pattern.specs.Patterns.{Patterns, no_pattern, node_first, tree_var_first, forest_var_first, count}
 use Rattle.qs_pattern.specs.Conditions.{Condition, Conditions, no_condition, condition_first}
-use Rattle.qs_ruletext.specs.Reading.{joined, reads_node, reads_tree_variable, ReadsList, reads_list, ReadsItem, reads_tree, reads_forest_variable, any_of, all_of, ReadsCond, reads_cond, ReadsMoreConjs, no_more_conjs, one_more_conj, ReadsConj, reads_conj, ReadsMoreNegs, no_more_negs, one_more_neg, ReadsNeg, not_negated, reads_negated, ReadsPrim, reads_group, reads_within, reads_outside}
+use Rattle.qs_ruletext.specs.Reading.{joined, reads_node, reads_tree_variable, ReadsList, reads_list, ReadsItem, reads_tree, reads_forest_variable, any_of, all_of, ReadsCond, reads_cond, ReadsMoreConjs, no_more_conjs, one_more_conj, ReadsConj, reads_conj, ReadsMoreNegs, no_more_negs, one_more_neg, ReadsNeg, not_negated, reads_negated, ReadsPrim, reads_group, reads_compared}
 use Rattle.qs_ruletext.specs.Written.{HasFullLists, HaveFullLists}
 
 no_fewer : (p q : Patterns) → count p ≤ count (joined p q)
@@ -49,5 +49,4 @@ mutual
 
   full_prim : {names : List (List ℕ)} {text : List ℕ} {ts rest : List Token} {c : Condition} → ReadsPrim names text ts c rest → HasFullLists c
   full_prim (reads_group e c f) = full_cond c
-  full_prim (reads_within a e b) = (some_in_list a, some_in_list b)
-  full_prim (reads_outside a e b) = (some_in_list a, some_in_list b)
+  full_prim (reads_compared a e b) = (some_in_list a, some_in_list b)

@@ -8,7 +8,7 @@ use Rattle.std.proofs.lemmas.Option.{slice_get-get_or, slice_get_within, unwrap_
 use Rattle.qs_lex.specs.declared.token.Token.{Token}
 use Rattle.qs_lex.specs.declared.token.Kind.{Kind}
 use Rattle.qs_lex.specs.declared.token.Kind.TheVariants.{Bare, Quoted}
-use Rattle.qs_lex.specs.declared.token.Word.TheVariants.{Dans, Hors, Et, Ou, Non}
+use Rattle.qs_lex.specs.declared.token.Word.TheVariants.{Et, Ou, Non}
 use Rattle.qs_lex.specs.Spelling.{IsLabelText}
 use Rattle.qs_lex.specs.Tokens.{bytes_of, IsLabel, HasLabelText}
 use Rattle.qs_lex.specs.Grammar.{Sort, a_label, a_label_variable, a_tree_variable, a_forest_variable, the_word, opening, closing, comma, plus, slash, equals, stop, sort_of, IsOf}
@@ -21,13 +21,14 @@ use Rattle.qs_tree.proofs.Members.{from_append, from_map, in_at}
 use Rattle.qs_pattern.specs.declared.pattern.Head.{Head}
 use Rattle.qs_pattern.specs.declared.pattern.Head.TheVariants as head
 use Rattle.qs_pattern.specs.Patterns.{Patterns, no_pattern, node_first, tree_var_first, forest_var_first}
-use Rattle.qs_pattern.specs.Conditions.{Condition, Conditions, within, outside, negated, all, any, no_condition, condition_first}
-use Rattle.qs_pattern.specs.Rules.{Rule}
+use Rattle.qs_pattern.specs.Conditions.{Condition, Conditions, no_condition, condition_first, over_lists, over_all_lists}
+use Rattle.qs_pattern.specs.Rules.{UnmarkedRule}
 use Rattle.qs_ruletext.specs.WrittenRules.{WrittenRule}
 use Rattle.qs_ruletext.specs.Names.{AddsName, AddsNameOf, NamesGrow}
-use Rattle.qs_ruletext.specs.Reading.{IsLabelOf, IsHeadOf, joined, ReadsTree, reads_node, reads_tree_variable, ReadsSubtrees, no_parentheses, nothing_inside, list_inside, ReadsList, reads_list, ReadsMoreItems, no_more_items, one_more_item, ReadsItem, reads_tree, reads_forest_variable, ReadsMoreTrees, no_more_trees, one_more_tree, ReadsSide, reads_side, any_of, all_of, ReadsCond, reads_cond, ReadsMoreConjs, no_more_conjs, one_more_conj, ReadsConj, reads_conj, ReadsMoreNegs, no_more_negs, one_more_neg, ReadsNeg, not_negated, reads_negated, ReadsPrim, reads_group, reads_within, reads_outside}
+use Rattle.qs_ruletext.specs.Reading.{comparing_word, IsLabelOf, IsHeadOf, joined, ReadsTree, reads_node, reads_tree_variable, ReadsSubtrees, no_parentheses, nothing_inside, list_inside, ReadsList, reads_list, ReadsMoreItems, no_more_items, one_more_item, ReadsItem, reads_tree, reads_forest_variable, ReadsMoreTrees, no_more_trees, one_more_tree, ReadsSide, reads_side, any_of, all_of, ReadsCond, reads_cond, ReadsMoreConjs, no_more_conjs, one_more_conj, ReadsConj, reads_conj, ReadsMoreNegs, no_more_negs, one_more_neg, ReadsNeg, not_negated, reads_negated, ReadsPrim, reads_group, reads_compared}
 use Rattle.qs_ruletext.specs.Rules.{ReadsCondIfGiven, no_cond, some_cond, ReadsRule, reads_rule, ReadsRules}
 use Rattle.qs_ruletext.proofs.OneReading.{one_sort}
+use Rattle.qs_ruletext.proofs.ComparingWords.{none_compares}
 
 -- the texts of the labels among these tokens, in order
 abbrev pub HaveTexts : List ℕ → List Token → List (List ℕ) → Type 0
@@ -58,27 +59,21 @@ labels_in (tree_var_first v behind) = labels_in behind
 labels_in (forest_var_first v behind) = labels_in behind
 
 -- those of a condition, and of conditions
-abbrev mutual
-  pub labels_in_condition : Condition → List Label
-  labels_in_condition (within a b) = labels_in a ++ labels_in b
-  labels_in_condition (outside a b) = labels_in a ++ labels_in b
-  labels_in_condition (negated c) = labels_in_condition c
-  labels_in_condition (all cs) = labels_in_conditions cs
-  labels_in_condition (any cs) = labels_in_conditions cs
+abbrev pub labels_in_condition : Condition → List Label
+labels_in_condition c = over_lists [] (λ ls ms. ls ++ ms) labels_in c
 
-  pub labels_in_conditions : Conditions → List Label
-  labels_in_conditions no_condition = []
-  labels_in_conditions (condition_first c cs) = labels_in_condition c ++ labels_in_conditions cs
+abbrev pub labels_in_conditions : Conditions → List Label
+labels_in_conditions cs = over_all_lists [] (λ ls ms. ls ++ ms) labels_in cs
 
 -- those of a rule, of its left side, of its right side and of its condition, and those of rules
 abbrev pub labels_if_given : Option Condition → List Label
 labels_if_given None = []
 labels_if_given (Some c) = labels_in_condition c
 
-abbrev pub labels_in_rule : Rule → List Label
+abbrev pub labels_in_rule : UnmarkedRule → List Label
 labels_in_rule r = labels_in r.left ++ (labels_in r.right ++ labels_if_given r.condition)
 
-abbrev pub labels_in_rules : List Rule → List Label
+abbrev pub labels_in_rules : List UnmarkedRule → List Label
 labels_in_rules [] = []
 labels_in_rules (r ∷ rs) = labels_in_rule r ++ labels_in_rules rs
 
@@ -209,14 +204,13 @@ mutual
 
   prim_passes : {names : List (List ℕ)} {text : List ℕ} {ts rest : List Token} {c : Condition} → ReadsPrim names text ts c rest → PassesLabels names text ts (labels_in_condition c) rest
   prim_passes (reads_group e c f) = passes_both (passes_sign opening refl e) (passes_before closing refl (cond_passes c) f)
-  prim_passes (reads_within a e b) = passes_both (passes_before (the_word Dans) refl (list_passes a) e) (list_passes b)
-  prim_passes (reads_outside a e b) = passes_both (passes_before (the_word Hors) refl (list_passes a) e) (list_passes b)
+  prim_passes (reads_compared {word} a e b) = passes_both (passes_before (the_word (comparing_word word)) (none_compares (same_sort a_label) refl refl word) (list_passes a) e) (list_passes b)
 
 given_passes : {names : List (List ℕ)} {text : List ℕ} {ts rest : List Token} {c : Option Condition} → ReadsCondIfGiven names text ts c rest → PassesLabels names text ts (labels_if_given c) rest
 given_passes no_cond = passes_nothing
 given_passes (some_cond e c) = passes_both (passes_sign slash refl e) (cond_passes c)
 
-pub rule_passes : {names : List (List ℕ)} {text : List ℕ} {ts rest : List Token} {r : Rule} → ReadsRule names text ts r rest → PassesLabels names text ts (labels_in_rule r) rest
+pub rule_passes : {names : List (List ℕ)} {text : List ℕ} {ts rest : List Token} {r : UnmarkedRule} → ReadsRule names text ts r rest → PassesLabels names text ts (labels_in_rule r) rest
 rule_passes (reads_rule left e right given f) =
     passes_both (passes_before equals refl (side_passes left) e) (passes_both (side_passes right) (passes_before stop refl (given_passes given) f))
 
@@ -226,7 +220,7 @@ rules_pass names text ts rest [] e = subst (λ us. PassesLabels names text ts []
 rules_pass names text ts rest (r ∷ rules) h = passes_both (rule_passes h.1.rule) (rules_pass names text h.0 rest rules h.2)
 
 -- the label tokens of a rule have the texts of its labels, and so have those of rules one behind the other
-pub rule_texts : {names : List (List ℕ)} {text : List ℕ} {ts rest : List Token} {r : Rule} → ReadsRule names text ts r rest
+pub rule_texts : {names : List (List ℕ)} {text : List ℕ} {ts rest : List Token} {r : UnmarkedRule} → ReadsRule names text ts r rest
     → HaveTextsUpTo text ts rest (map (name_of names) (labels_in_rule r))
 rule_texts reads = let found = rule_passes reads in (found.passed, found.are, found.texts)
 

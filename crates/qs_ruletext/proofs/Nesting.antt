@@ -7,10 +7,10 @@ use Rattle.qs_lex.specs.declared.token.Kind.{Kind}
 use Rattle.qs_lex.specs.declared.token.Kind.TheVariants.{Bare, Quoted, Variable, Node, Word as a_word, Opening, Closing, Comma, Plus, Slash, Equals, Stop}
 use Rattle.qs_lex.specs.Nesting.{open_behind, IsTooDeep}
 use Rattle.qs_pattern.specs.Patterns.{Patterns, no_pattern, node_first, tree_var_first, forest_var_first}
-use Rattle.qs_pattern.specs.Conditions.{Condition, Conditions, within, outside, negated, all, any, no_condition, condition_first}
-use Rattle.qs_pattern.specs.Rules.{Rule}
+use Rattle.qs_pattern.specs.Conditions.{all, any, Condition, Conditions, compared, negated, combined, no_condition, condition_first}
+use Rattle.qs_pattern.specs.Rules.{UnmarkedRule}
 use Rattle.qs_ruletext.specs.Reading.{joined}
-use Rattle.qs_ruletext.specs.Texts.{tightness}
+use Rattle.qs_ruletext.specs.Texts.{tightness, joining_tightness}
 
 -- at most 1,000 parentheses are open behind each of these tokens, where so many are open before them
 abbrev pub Fits : ℕ → List Token → Type 0
@@ -103,11 +103,9 @@ member_height outer member inside = if nat_le (tightness member) outer then suc 
 -- how many are in a condition
 abbrev mutual
   pub condition_height : Condition → ℕ
-  condition_height (within a b) = max (height a) (height b)
-  condition_height (outside a b) = max (height a) (height b)
+  condition_height (compared word a b) = max (height a) (height b)
   condition_height (negated c) = member_height 3 c (condition_height c)
-  condition_height (all cs) = condition_heights 2 cs
-  condition_height (any cs) = condition_heights 1 cs
+  condition_height (combined word cs) = condition_heights (joining_tightness word) cs
 
   -- how many are in the members of a condition of this tightness
   pub condition_heights : ℕ → Conditions → ℕ
@@ -119,7 +117,7 @@ height_if_given None = 0
 height_if_given (Some c) = condition_height c
 
 -- how many are in a rule
-abbrev pub rule_height : Rule → ℕ
+abbrev pub rule_height : UnmarkedRule → ℕ
 rule_height r = max (max (height r.left) (height r.right)) (height_if_given r.condition)
 
 -- there are at most those within and the two around it
@@ -139,8 +137,7 @@ height-joined (forest_var_first v ps) qs = height-joined ps qs
 -- the looser the condition around it, the fewer members stand in parentheses
 pub looser : (c : Condition) (inside : ℕ)
     → (inside ≤ member_height 1 c inside) × (member_height 1 c inside ≤ member_height 2 c inside) × (member_height 2 c inside ≤ member_height 3 c inside) × (member_height 3 c inside ≤ suc inside)
-looser (within a b) inside = (omega arith, omega arith, omega arith, omega arith)
-looser (outside a b) inside = (omega arith, omega arith, omega arith, omega arith)
+looser (compared word a b) inside = (omega arith, omega arith, omega arith, omega arith)
 looser (negated c) inside = (omega arith, omega arith, omega arith, omega arith)
-looser (all cs) inside = (omega arith, omega arith, omega arith, omega arith)
-looser (any cs) inside = (omega arith, omega arith, omega arith, omega arith)
+looser (combined all cs) inside = (omega arith, omega arith, omega arith, omega arith)
+looser (combined any cs) inside = (omega arith, omega arith, omega arith, omega arith)

@@ -4,10 +4,10 @@ use Rattle.std.proofs.Common.{ℕ, ◌+◌, ◌≤◌, refl, List, ◌∷◌, ar
 use Rattle.qs_lex.specs.declared.token.Token.{Token}
 use Rattle.qs_pattern.specs.Patterns.{Patterns}
 use Rattle.qs_pattern.specs.Conditions.{Condition, Conditions, no_condition, condition_first}
-use Rattle.qs_pattern.specs.Rules.{Rule}
+use Rattle.qs_pattern.specs.Rules.{UnmarkedRule}
 use Rattle.qs_lex.specs.Grammar.{a_tree_variable, a_forest_variable, the_word, comma, plus, slash, equals, stop}
-use Rattle.qs_lex.specs.declared.token.Word.TheVariants.{Dans, Hors, Et, Ou, Non}
-use Rattle.qs_ruletext.specs.Reading.{ReadsTree, reads_node, reads_tree_variable, ReadsSubtrees, no_parentheses, nothing_inside, list_inside, ReadsList, reads_list, ReadsMoreItems, no_more_items, one_more_item, ReadsItem, reads_tree, reads_forest_variable, ReadsMoreTrees, no_more_trees, one_more_tree, ReadsSide, reads_side, any_of, all_of, ReadsCond, reads_cond, ReadsMoreConjs, no_more_conjs, one_more_conj, ReadsConj, reads_conj, ReadsMoreNegs, no_more_negs, one_more_neg, ReadsNeg, not_negated, reads_negated, ReadsPrim, reads_group, reads_within, reads_outside}
+use Rattle.qs_lex.specs.declared.token.Word.TheVariants.{Et, Ou, Non}
+use Rattle.qs_ruletext.specs.Reading.{comparing_word, ReadsTree, reads_node, reads_tree_variable, ReadsSubtrees, no_parentheses, nothing_inside, list_inside, ReadsList, reads_list, ReadsMoreItems, no_more_items, one_more_item, ReadsItem, reads_tree, reads_forest_variable, ReadsMoreTrees, no_more_trees, one_more_tree, ReadsSide, reads_side, any_of, all_of, ReadsCond, reads_cond, ReadsMoreConjs, no_more_conjs, one_more_conj, ReadsConj, reads_conj, ReadsMoreNegs, no_more_negs, one_more_neg, ReadsNeg, not_negated, reads_negated, ReadsPrim, reads_group, reads_compared}
 use Rattle.qs_ruletext.specs.Rules.{ReadsCondIfGiven, no_cond, some_cond, ReadsRule, reads_rule}
 use Rattle.qs_ruletext.proofs.Nesting.{Fits, below, height, member_height, condition_height, condition_heights, height_if_given, rule_height, below_least, height-joined, looser}
 use Rattle.qs_ruletext.proofs.NestingSteps.{keeps, head_keeps, Shows, shows_less, shows_none, shows_one, shows_both, shows_behind, shows_group}
@@ -79,21 +79,20 @@ mutual
 
   prim_shows : {names : List (List ℕ)} {text : List ℕ} {ts rest : List Token} {c : Condition} → ReadsPrim names text ts c rest → Shows (member 3 c) ts rest
   prim_shows (reads_group {t} {u} {c = c} opens inside closes) = shows_less (shows_group t u opens (cond_shows inside) closes) (looser c (condition_height c)).3
-  prim_shows (reads_within {t} a is b) = shows_both (list_shows a) (shows_behind t (keeps (the_word Dans) t (λ n. refl) is) (list_shows b))
-  prim_shows (reads_outside {t} a is b) = shows_both (list_shows a) (shows_behind t (keeps (the_word Hors) t (λ n. refl) is) (list_shows b))
+  prim_shows (reads_compared {word} {t} a is b) = shows_both (list_shows a) (shows_behind t (keeps (the_word (comparing_word word)) t (λ n. refl) is) (list_shows b))
 
 -- rules
 given_shows : {names : List (List ℕ)} {text : List ℕ} {ts rest : List Token} {condition : Option Condition} → ReadsCondIfGiven names text ts condition rest → Shows (height_if_given condition) ts rest
 given_shows (no_cond {ts}) = shows_none ts
 given_shows (some_cond {t} is c) = shows_behind t (keeps slash t (λ n. refl) is) (cond_shows c)
 
-pub rule_shows : {names : List (List ℕ)} {text : List ℕ} {ts rest : List Token} {r : Rule} → ReadsRule names text ts r rest → Shows (rule_height r) ts rest
+pub rule_shows : {names : List (List ℕ)} {text : List ℕ} {ts rest : List Token} {r : UnmarkedRule} → ReadsRule names text ts r rest → Shows (rule_height r) ts rest
 rule_shows (reads_rule {t} {u} {rest = rest} left is right given stops) =
     shows_less
     (shows_both (side_shows left) (shows_behind t (keeps equals t (λ n. refl) is) (shows_both (side_shows right) (shows_both (given_shows given) (shows_one u rest (keeps stop u (λ n. refl) stops))))))
     (omega arith)
 
 -- the same in plain words: where the tokens of a rule fit, as many more parentheses as the rule needs may be open
-pub rule_read_fits : {names : List (List ℕ)} {text : List ℕ} {ts rest : List Token} {r : Rule} → ReadsRule names text ts r rest
+pub rule_read_fits : {names : List (List ℕ)} {text : List ℕ} {ts rest : List Token} {r : UnmarkedRule} → ReadsRule names text ts r rest
     → (depth : ℕ) → depth ≤ 1000 → Fits depth ts → (rule_height r + depth ≤ 1000) × Fits depth rest
 rule_read_fits reads = (rule_shows reads).fits

@@ -4,16 +4,19 @@ use Rattle.std.specs.Prelude.{nat_le, if◌then◌else◌}
 use Rattle.std.specs.List.{flat_map}
 use Rattle.qs_lex.specs.declared.token.Kind.{Kind}
 use Rattle.qs_lex.specs.declared.token.Kind.TheVariants.{Opening, Closing, Comma, Plus, Slash, Equals, Stop, Word as a_word}
-use Rattle.qs_lex.specs.declared.token.Word.TheVariants.{Dans, Hors, Et, Ou, Non}
+use Rattle.qs_lex.specs.declared.token.Word.{Word}
+use Rattle.qs_lex.specs.declared.token.Word.TheVariants.{Non}
+use Rattle.qs_lex.specs.Spelling.{between_dashes, name_of as word_name}
 use Rattle.qs_lex.specs.Grammar.{Sort, a_tree_variable, a_forest_variable, sort_of}
 use Rattle.qs_pattern.specs.declared.variable.Var.{Var}
 use Rattle.qs_pattern.specs.declared.pattern.Head.{Head}
 use Rattle.qs_pattern.specs.Patterns.{Patterns, no_pattern, node_first, tree_var_first, forest_var_first, IsHeadInClass, AreInClass}
-use Rattle.qs_pattern.specs.Conditions.{Condition, Conditions, within, outside, negated, all, any, no_condition, condition_first, IsConditionInClass, AreConditionsInClass}
+use Rattle.qs_pattern.specs.Conditions.{Condition, Conditions, compared, negated, combined, no_condition, condition_first, IsConditionInClass, EachListOfAll}
 use Rattle.qs_pattern.specs.Named.{IsHeadNamed, ArePatternsNamed, IsConditionNamed, AreConditionsNamed}
-use Rattle.qs_pattern.specs.Rules.{Rule}
+use Rattle.qs_pattern.specs.Rules.{UnmarkedRule}
 use Rattle.qs_ruletext.specs.Rules.{IsWellReadIfGiven, IsWellRead}
-use Rattle.qs_ruletext.specs.Texts.{joined, in_parentheses, variable_text, head_text, kids_text, pattern_texts, list_text, side_text, tightness, member_text, condition_text, member_texts, condition_part}
+use Rattle.qs_ruletext.specs.Reading.{comparing_word}
+use Rattle.qs_ruletext.specs.Texts.{spaced_word, joining_word, joining_tightness, joined, in_parentheses, variable_text, head_text, kids_text, pattern_texts, list_text, side_text, tightness, member_text, condition_text, member_texts, condition_part}
 use Rattle.qs_ruletext.specs.Written.{AreOnOneLine, written}
 use Rattle.qs_ruletext.proofs.ReadBack.{Goes, IsOne, both, turned, nothing, space, token, spaced}
 use Rattle.qs_ruletext.proofs.HeadsReadBack.{Closes, AreVariable, head_goes, tree_variable_goes, forest_variable_goes}
@@ -95,17 +98,13 @@ module _ (text : List ℕ) where
     closes = others_close 32 (codes "+ ") refl;
   }
 
-  et_separates : Separates (codes " -ET- ")
-  et_separates = record {
-    goes = λ n left. one_goes n (a_word Et) (codes "-ET-") (codes " -ET- ") left (λ m. refl) (spaced text (a_word Et) (codes "-ET-") left refl tt refl);
-    closes = others_close 32 (codes "-ET- ") refl;
-  }
-
-  ou_separates : Separates (codes " -OU- ")
-  ou_separates = record {
-    goes = λ n left. one_goes n (a_word Ou) (codes "-OU-") (codes " -OU- ") left (λ m. refl) (spaced text (a_word Ou) (codes "-OU-") left refl tt refl);
-    closes = others_close 32 (codes "-OU- ") refl;
-  }
+  word_separates : (word : Word) → Separates (spaced_word word)
+  word_separates word =
+      let bytes : List ℕ = between_dashes (word_name word) in
+      record {
+        goes = λ n left. one_goes n (a_word word) bytes (spaced_word word) left (λ m. refl) (spaced text (a_word word) bytes left refl tt refl);
+        closes = others_close 32 (bytes ++ codes " ") refl;
+      }
 
   -- texts that each open at most so many open at most so many, one behind the other
   module _ {between : List ℕ} (separates : Separates between) {n : ℕ} where
@@ -194,13 +193,13 @@ module _ (text : List ℕ) where
     -- a condition, and each of its members
     mutual
       pub condition_opens : (c : Condition) → IsConditionNamed (length names) c → IsConditionInClass c → OpensUpTo (condition_height c) (condition_text names c)
-      condition_opens (within a b) named class = lists_open a b (codes " -DANS- ") named class (λ n left. one_goes n (a_word Dans) (codes "-DANS-") (codes " -DANS- ") left (λ m. refl) (spaced text (a_word Dans) (codes "-DANS-") left refl tt refl)) (λ behind left. refl) _ (omega arith) (omega arith)
-      condition_opens (outside a b) named class = lists_open a b (codes " -HORS- ") named class (λ n left. one_goes n (a_word Hors) (codes "-HORS-") (codes " -HORS- ") left (λ m. refl) (spaced text (a_word Hors) (codes "-HORS-") left refl tt refl)) (λ behind left. refl) _ (omega arith) (omega arith)
+      condition_opens (compared word a b) named class =
+          lists_open a b (spaced_word (comparing_word word)) named class (word_separates (comparing_word word)).goes (λ behind left. refl) _ (omega arith) (omega arith)
       condition_opens (negated c) named class = negated_opens c (condition_opens c named class)
-      condition_opens (all cs) named class = joined_go et_separates (member_texts names 2 cs) (members_open 2 cs named class)
-      condition_opens (any cs) named class = joined_go ou_separates (member_texts names 1 cs) (members_open 1 cs named class)
+      condition_opens (combined word cs) named class =
+          joined_go (word_separates (joining_word word)) (member_texts names (joining_tightness word) cs) (members_open (joining_tightness word) cs named class)
 
-      members_open : (outer : ℕ) (cs : Conditions) → AreConditionsNamed (length names) cs → AreConditionsInClass cs → EachUpTo (condition_heights outer cs) (member_texts names outer cs)
+      members_open : (outer : ℕ) (cs : Conditions) → AreConditionsNamed (length names) cs → EachListOfAll AreInClass cs → EachUpTo (condition_heights outer cs) (member_texts names outer cs)
       members_open outer no_condition named class = tt
       members_open outer (condition_first c cs) named class = (
         λ left closes. goes_less (member_text outer c (condition_text names c)) left (member_goes outer c (condition_text names c) (condition_opens c named.0 class.0) left closes) (omega arith),
@@ -215,7 +214,7 @@ module _ (text : List ℕ) where
         (condition_opens c w.named w.in_class left closes)
 
     -- whatever follows: a rule ends with a stop
-    pub rule_opens : (r : Rule) → IsWellRead (length names) r → (left : List ℕ) → Goes text (Opens (rule_height r)) (written names r) left
+    pub rule_opens : (r : UnmarkedRule) → IsWellRead (length names) r → (left : List ℕ) → Goes text (Opens (rule_height r)) (written names r) left
     rule_opens r w left =
         let part : List ℕ = condition_part names r.condition in
         let behind_right : List ℕ = part ++ codes "." in
@@ -233,6 +232,6 @@ module _ (text : List ℕ) where
 
 -- the same in plain words: where as many more parentheses as the rule needs may be open, and what stands behind the rule
 -- fits, the rule and what stands behind it do
-pub rule_goes_fitting : (names : List (List ℕ)) (text : List ℕ) → AreOnOneLine names → (r : Rule) → IsWellRead (length names) r → (left : List ℕ)
+pub rule_goes_fitting : (names : List (List ℕ)) (text : List ℕ) → AreOnOneLine names → (r : UnmarkedRule) → IsWellRead (length names) r → (left : List ℕ)
     → Goes text (λ ts rest. (depth : ℕ) → rule_height r + depth ≤ 1000 → Fits depth rest → Fits depth ts) (written names r) left
 rule_goes_fitting names text line r w left = turned text (written names r) left (λ ts rest o. o.fits) (rule_opens text names line r w left)

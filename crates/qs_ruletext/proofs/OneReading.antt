@@ -5,7 +5,7 @@ use Rattle.std.proofs.Common.{◌≡◌, ℕ, Bool, true, false, ◌||◌, refl,
 use Rattle.std.proofs.lemmas.Bool.{false≢true}
 use Rattle.qs_lex.specs.declared.token.Token.{Token}
 use Rattle.qs_lex.specs.declared.token.Kind.TheVariants.{Variable}
-use Rattle.qs_lex.specs.declared.token.Word.TheVariants.{Dans, Hors, Et, Ou, Non}
+use Rattle.qs_lex.specs.declared.token.Word.TheVariants.{Et, Ou, Non}
 use Rattle.qs_lex.specs.Tokens.{bytes_of}
 use Rattle.qs_lex.specs.Grammar.{Sort, a_label, a_label_variable, a_tree_variable, a_forest_variable, the_word, opening, closing, comma, plus, sort_of, IsOf, part, IsWhole}
 use Rattle.qs_lex.specs.Expecting.{same_sort, NextIsNo}
@@ -18,10 +18,11 @@ use Rattle.qs_pattern.specs.contracts.variable.Var as var
 use Rattle.qs_pattern.specs.declared.pattern.Head.{Head}
 use Rattle.qs_pattern.specs.declared.pattern.Head.TheVariants as head
 use Rattle.qs_pattern.specs.Patterns.{Patterns, no_pattern, node_first, tree_var_first, forest_var_first}
-use Rattle.qs_pattern.specs.Conditions.{Condition, Conditions, within, outside, negated, condition_first}
+use Rattle.qs_pattern.specs.Conditions.{Condition, Conditions, compared, negated, condition_first}
 use Rattle.qs_ruletext.specs.Grammar.{Part, tree, list, line}
-use Rattle.qs_ruletext.specs.Reading.{IsLabelOf, IsVariableOf, IsHeadOf, joined, ReadsTree, reads_node, reads_tree_variable, ReadsSubtrees, no_parentheses, nothing_inside, list_inside, ReadsList, reads_list, ReadsMoreItems, no_more_items, one_more_item, ReadsItem, reads_tree, reads_forest_variable, ReadsMoreTrees, no_more_trees, one_more_tree, ReadsSide, reads_side, any_of, all_of, ReadsCond, reads_cond, ReadsMoreConjs, no_more_conjs, one_more_conj, ReadsConj, reads_conj, ReadsMoreNegs, no_more_negs, one_more_neg, ReadsNeg, not_negated, reads_negated, ReadsPrim, reads_group, reads_within, reads_outside}
+use Rattle.qs_ruletext.specs.Reading.{comparing_word, IsLabelOf, IsVariableOf, IsHeadOf, joined, ReadsTree, reads_node, reads_tree_variable, ReadsSubtrees, no_parentheses, nothing_inside, list_inside, ReadsList, reads_list, ReadsMoreItems, no_more_items, one_more_item, ReadsItem, reads_tree, reads_forest_variable, ReadsMoreTrees, no_more_trees, one_more_tree, ReadsSide, reads_side, any_of, all_of, ReadsCond, reads_cond, ReadsMoreConjs, no_more_conjs, one_more_conj, ReadsConj, reads_conj, ReadsMoreNegs, no_more_negs, one_more_neg, ReadsNeg, not_negated, reads_negated, ReadsPrim, reads_group, reads_compared}
 use Rattle.qs_ruletext.specs.Cursors.{table, begins_tree, begins_item}
+use Rattle.qs_ruletext.proofs.ComparingWords.{none_compares, one_comparing}
 use Rattle.qs_ruletext.proofs.Tables.{ok}
 use Rattle.qs_ruletext.proofs.SideSteps.{label_sort}
 use Rattle.qs_ruletext.proofs.Whole.{tree_whole, list_whole}
@@ -191,8 +192,7 @@ module _ (names : List (List ℕ)) (text : List ℕ) (distinct : AreDistinct nam
   -- no condition without `-NON-` begins with it
   no_prim : (t : Token) {ts rest : List Token} {c : Condition} → IsOf (the_word Non) t → ReadsPrim names text (t ∷ ts) c rest → ⊥
   no_prim t e (reads_group f c g) = one_sort (the_word Non) opening t refl e f
-  no_prim t e (reads_within a f b) = no_list (the_word Non) t refl e a
-  no_prim t e (reads_outside a f b) = no_list (the_word Non) t refl e a
+  no_prim t e (reads_compared a f b) = no_list (the_word Non) t refl e a
 
   -- what stands behind a member of a conjunction, and of a condition
   behind_neg : {ts rest : List Token} {cs : Conditions} → ReadsMoreNegs names text ts cs rest → NextIsNo after_conj rest → NextIsNo after_list ts
@@ -259,19 +259,9 @@ module _ (names : List (List ℕ)) (text : List ℕ) (distinct : AreDistinct nam
     one_prim (reads_group {u} e c f) (reads_group {u = v} g d h) n m =
         let inside = one_cond c d (fails_for after_cond closing u refl f) (fails_for after_cond closing v refl h) in
         (inside.0, same_rest inside.1)
-    one_prim (reads_group {t} e c f) (reads_within a g b) n m = absurd (no_list opening t refl e a)
-    one_prim (reads_group {t} e c f) (reads_outside a g b) n m = absurd (no_list opening t refl e a)
-    one_prim (reads_within a g b) (reads_group {t} e c f) n m = absurd (no_list opening t refl e a)
-    one_prim (reads_within {t} a e b) (reads_within {t = u} p f q) n m =
-        let same = both_lists (fails_for after_list (the_word Dans) t refl e) (fails_for after_list (the_word Dans) u refl f) a b p q n m in
-        (λ i. within (same.0 i) (same.2 i), same.3)
-    one_prim (reads_within {t} a e b) (reads_outside {t = u} p f q) n m =
-        let same = both_lists (fails_for after_list (the_word Dans) t refl e) (fails_for after_list (the_word Hors) u refl f) a b p q n m in
-        absurd (one_sort (the_word Dans) (the_word Hors) u refl (subst (λ v. IsOf (the_word Dans) v) same.1 e) f)
-    one_prim (reads_outside a g b) (reads_group {t} e c f) n m = absurd (no_list opening t refl e a)
-    one_prim (reads_outside {t} a e b) (reads_within {t = u} p f q) n m =
-        let same = both_lists (fails_for after_list (the_word Hors) t refl e) (fails_for after_list (the_word Dans) u refl f) a b p q n m in
-        absurd (one_sort (the_word Hors) (the_word Dans) u refl (subst (λ v. IsOf (the_word Hors) v) same.1 e) f)
-    one_prim (reads_outside {t} a e b) (reads_outside {t = u} p f q) n m =
-        let same = both_lists (fails_for after_list (the_word Hors) t refl e) (fails_for after_list (the_word Hors) u refl f) a b p q n m in
-        (λ i. outside (same.0 i) (same.2 i), same.3)
+    one_prim (reads_group {t} e c f) (reads_compared a g b) n m = absurd (no_list opening t refl e a)
+    one_prim (reads_compared a g b) (reads_group {t} e c f) n m = absurd (no_list opening t refl e a)
+    one_prim (reads_compared {word = v} {t} a e b) (reads_compared {word = w} {t = u} p f q) n m =
+        let same = both_lists (fails_for after_list (the_word (comparing_word v)) t (none_compares after_list refl refl v) e) (fails_for after_list (the_word (comparing_word w)) u (none_compares after_list refl refl w) f) a b p q n m in
+        let word = one_comparing v w u (subst (λ x. IsOf (the_word (comparing_word v)) x) same.1 e) f in
+        (λ i. compared (word i) (same.0 i) (same.2 i), same.3)

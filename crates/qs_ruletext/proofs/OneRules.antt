@@ -10,7 +10,7 @@ use Rattle.qs_pattern.specs.declared.pattern.Head.{Head}
 use Rattle.qs_pattern.specs.declared.pattern.Head.TheVariants as head
 use Rattle.qs_pattern.specs.Patterns.{Patterns}
 use Rattle.qs_pattern.specs.Conditions.{Condition}
-use Rattle.qs_pattern.specs.Rules.{Rule}
+use Rattle.qs_pattern.specs.Rules.{UnmarkedRule}
 use Rattle.qs_ruletext.specs.WrittenRules.{WrittenRule}
 use Rattle.qs_ruletext.specs.Grammar.{Part, rule, tree, line}
 use Rattle.qs_ruletext.specs.Reading.{IsHeadOf, ReadsTree, reads_node, reads_tree_variable, ReadsSide, reads_side}
@@ -31,7 +31,7 @@ tree_begins : {names : List (List ℕ)} {text : List ℕ} {ts rest : List Token}
 tree_begins {names} {text} (reads_node {t} {h} {ts} is below) = (t, ts, refl, begins_part (begins_this (begins_first (head_begins names text t h is))))
 tree_begins (reads_tree_variable {t} {rest} is) = (t, rest, refl, begins_part (begins_other (begins_token is.of_sort)))
 
-rule_begins : {names : List (List ℕ)} {text : List ℕ} {ts rest : List Token} {r : Rule} → ReadsRule names text ts r rest → FirstBegins (part rule) ts
+rule_begins : {names : List (List ℕ)} {text : List ℕ} {ts rest : List Token} {r : UnmarkedRule} → ReadsRule names text ts r rest → FirstBegins (part rule) ts
 rule_begins (reads_rule (reads_side first more) e right given f) =
     let b = tree_begins first in
     (b.0, b.1, b.2, begins_part (begins_first (begins_part (begins_first b.3))))
@@ -41,7 +41,7 @@ abbrev NextIs : Sort → List Token → Type 0
 NextIs s [] = ⊥
 NextIs s (t ∷ ts) = IsOf s t
 
-no_rule : {names : List (List ℕ)} {text : List ℕ} {ts rest : List Token} {r : Rule} → NoRuleIn ts → ReadsRule names text ts r rest → ⊥
+no_rule : {names : List (List ℕ)} {text : List ℕ} {ts rest : List Token} {r : UnmarkedRule} → NoRuleIn ts → ReadsRule names text ts r rest → ⊥
 no_rule none r = let b = rule_begins r in none b.0 b.1 b.2 b.3
 
 module _ (names : List (List ℕ)) (text : List ℕ) (distinct : AreDistinct names) where
@@ -61,7 +61,7 @@ module _ (names : List (List ℕ)) (text : List ℕ) (distinct : AreDistinct nam
       by_next (u ∷ us) s = fails_for after_side stop u refl s
   behind_side (some_cond {t} e c) s = fails_for after_side slash t refl e
 
-  pub one_rule : {ts rest end : List Token} {r s : Rule} → ReadsRule names text ts r rest → ReadsRule names text ts s end → (r ≡ s) × (rest ≡ end)
+  pub one_rule : {ts rest end : List Token} {r s : UnmarkedRule} → ReadsRule names text ts r rest → ReadsRule names text ts s end → (r ≡ s) × (rest ≡ end)
   one_rule {rest} {end} (reads_rule {t} {u} left e right given stops) (reads_rule {t = v} {u = w} {end = edge} {right = there} {condition} also f next maybe halts) =
       let lefts = one_side names text distinct left also (fails_for after_side equals t refl e) (fails_for after_side equals v refl f) in
       let moved = subst (λ us. ReadsSide names text us there edge) (sym (same_rest lefts.1)) next in

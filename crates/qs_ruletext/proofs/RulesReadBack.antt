@@ -5,7 +5,7 @@ use Rattle.qs_lex.specs.declared.token.Kind.TheVariants.{Slash, Equals, Stop}
 use Rattle.qs_lex.specs.Tokens.{Reads, AreTokensOf}
 use Rattle.qs_lex.specs.Grammar.{sort_of}
 use Rattle.qs_pattern.specs.Conditions.{Condition}
-use Rattle.qs_pattern.specs.Rules.{Rule}
+use Rattle.qs_pattern.specs.Rules.{UnmarkedRule}
 use Rattle.qs_ruletext.specs.Reading.{ReadsSide}
 use Rattle.qs_ruletext.specs.Rules.{ReadsCondIfGiven, no_cond, some_cond, ReadsRule, reads_rule, IsWellReadSide, IsWellReadIfGiven, IsWellRead}
 use Rattle.qs_ruletext.specs.Texts.{side_text, condition_text, condition_part}
@@ -36,7 +36,7 @@ module _ (names : List (List ℕ)) (text : List ℕ) (line : AreOnOneLine names)
   side_goes left side w closes = (sides_go names text line side w.named w.in_class w.no_forest_at_top).1 left closes w.some
 
   -- whatever follows: a rule ends with a stop
-  pub rule_goes : (r : Rule) → IsWellRead (length names) r → (left : List ℕ)
+  pub rule_goes : (r : UnmarkedRule) → IsWellRead (length names) r → (left : List ℕ)
       → Goes text (λ ts rest. ReadsRule names text ts r rest) (written names r) left
   rule_goes r w left =
       let part : List ℕ = condition_part names r.condition in
@@ -63,7 +63,7 @@ module _ (names : List (List ℕ)) (text : List ℕ) (line : AreOnOneLine names)
       (token text Stop (codes ".") left refl tt refl)))))
 
 -- a rule between other things: where the tokens behind it are read, the rule and those tokens are
-pub rule_within : (names : List (List ℕ)) (before behind : List ℕ) (r : Rule) (rest : List Token) (next : ℕ)
+pub rule_within : (names : List (List ℕ)) (before behind : List ℕ) (r : UnmarkedRule) (rest : List Token) (next : ℕ)
     → AreOnOneLine names → IsWellRead (length names) r
     → Reads (before ++ (written names r ++ behind)) (length before + length (written names r)) rest next
     → (ts : List Token) × Reads (before ++ (written names r ++ behind)) (length before) ts next
@@ -72,12 +72,12 @@ rule_within names before behind r rest next line w =
     amid before (written names r) behind rest next (rule_goes names (before ++ (written names r ++ behind)) line r w behind)
 
 -- a rule alone
-pub rule_alone : (names : List (List ℕ)) (r : Rule) → AreOnOneLine names → IsWellRead (length names) r
+pub rule_alone : (names : List (List ℕ)) (r : UnmarkedRule) → AreOnOneLine names → IsWellRead (length names) r
     → (ts : List Token) × AreTokensOf (written names r) ts × ReadsRule names (written names r) ts r []
 rule_alone names r line w = alone (written names r) (rule_goes names (written names r) line r w [])
 
 -- and it is read as that rule only
-pub rule_only : (names : List (List ℕ)) (r s : Rule) (ts rest : List Token) → AreDistinct names → AreOnOneLine names → IsWellRead (length names) r
+pub rule_only : (names : List (List ℕ)) (r s : UnmarkedRule) (ts rest : List Token) → AreDistinct names → AreOnOneLine names → IsWellRead (length names) r
     → AreTokensOf (written names r) ts → ReadsRule names (written names r) ts s rest → (s ≡ r) × (rest ≡ [])
 rule_only names r s ts rest distinct line w are reads =
     let text : List ℕ = written names r in

@@ -13,10 +13,11 @@ use Rattle.qs_pattern.specs.declared.variable.Var.{Var}
 use Rattle.qs_pattern.specs.declared.pattern.Head.{Head}
 use Rattle.qs_pattern.specs.declared.pattern.Head.TheVariants as head
 use Rattle.qs_pattern.specs.Patterns.{Patterns, no_pattern, node_first, tree_var_first, forest_var_first, IsHeadInClass, AreInClass}
-use Rattle.qs_pattern.specs.Conditions.{Condition, Conditions, within, outside, negated, all, any, no_condition, condition_first, IsConditionInClass, AreConditionsInClass}
-use Rattle.qs_pattern.specs.Rules.{Rule, IsInClassIfGiven}
+use Rattle.qs_pattern.specs.Conditions.{Comparing, within, outside, Joining, all, any, Condition, Conditions, compared, negated, combined, no_condition, condition_first, IsConditionInClass, EachListOfAll}
+use Rattle.qs_pattern.specs.Rules.{UnmarkedRule, IsInClassIfGiven}
 use Rattle.qs_ruletext.specs.Rules.{IsWellRead, IsWellReadIfGiven}
-use Rattle.qs_ruletext.specs.Texts.{joined, in_parentheses, variable_text, head_text, kids_text, pattern_texts, list_text, side_text, tightness, member_text, condition_text, member_texts, condition_part}
+use Rattle.qs_ruletext.specs.Reading.{comparing_word}
+use Rattle.qs_ruletext.specs.Texts.{spaced_word, joining_word, joining_tightness, joined, in_parentheses, variable_text, head_text, kids_text, pattern_texts, list_text, side_text, tightness, member_text, condition_text, member_texts, condition_part}
 use Rattle.qs_ruletext.specs.Written.{written}
 use Rattle.qs_ruletext.proofs.NamesInUtf8.{AreUtf8, with_ascii_between, between_quotes_is}
 
@@ -125,6 +126,15 @@ module _ (names : List (List ℕ)) (are : AreUtf8 names) where
   side_is : (ps : Patterns) → AreInClass ps → IsUtf8 (side_text names ps)
   side_is ps c = joined_is (codes " + ") (pattern_texts names ps) (ascii_is (codes " + ") refl) (patterns_are ps c)
 
+  -- a word between spaces
+  comparing_is : (word : Comparing) → IsUtf8 (spaced_word (comparing_word word))
+  comparing_is within = ascii_is (spaced_word (comparing_word within)) refl
+  comparing_is outside = ascii_is (spaced_word (comparing_word outside)) refl
+
+  joining_is : (word : Joining) → IsUtf8 (spaced_word (joining_word word))
+  joining_is all = ascii_is (spaced_word (joining_word all)) refl
+  joining_is any = ascii_is (spaced_word (joining_word any)) refl
+
   -- two lists with a word between them
   two_lists : (a b : Patterns) (word : List ℕ) → AreInClass a × AreInClass b → IsUtf8 word → IsUtf8 (list_text names a ++ (word ++ list_text names b))
   two_lists a b word c utf8 = IsUtf8-append (list_text names a) (word ++ list_text names b) (list_is a c.0) (IsUtf8-append word (list_text names b) utf8 (list_is b c.1))
@@ -135,13 +145,12 @@ module _ (names : List (List ℕ)) (are : AreUtf8 names) where
 
   mutual
     condition_is : (c : Condition) → IsConditionInClass c → IsUtf8 (condition_text names c)
-    condition_is (within a b) k = two_lists a b (codes " -DANS- ") k (ascii_is (codes " -DANS- ") refl)
-    condition_is (outside a b) k = two_lists a b (codes " -HORS- ") k (ascii_is (codes " -HORS- ") refl)
+    condition_is (compared word a b) k = two_lists a b (spaced_word (comparing_word word)) k (comparing_is word)
     condition_is (negated c) k = IsUtf8-append (codes "-NON- ") (member_text 3 c (condition_text names c)) (ascii_is (codes "-NON- ") refl) (member_is 3 c (condition_text names c) (condition_is c k))
-    condition_is (all cs) k = joined_is (codes " -ET- ") (member_texts names 2 cs) (ascii_is (codes " -ET- ") refl) (members_are 2 cs k)
-    condition_is (any cs) k = joined_is (codes " -OU- ") (member_texts names 1 cs) (ascii_is (codes " -OU- ") refl) (members_are 1 cs k)
+    condition_is (combined word cs) k =
+        joined_is (spaced_word (joining_word word)) (member_texts names (joining_tightness word) cs) (joining_is word) (members_are (joining_tightness word) cs k)
 
-    members_are : (outer : ℕ) (cs : Conditions) → AreConditionsInClass cs → All IsUtf8 (member_texts names outer cs)
+    members_are : (outer : ℕ) (cs : Conditions) → EachListOfAll AreInClass cs → All IsUtf8 (member_texts names outer cs)
     members_are outer no_condition k = All-nil IsUtf8
     members_are outer (condition_first c cs) k =
         All-cons IsUtf8 (member_text outer c (condition_text names c)) (member_texts names outer cs) (member_is outer c (condition_text names c) (condition_is c k.0)) (members_are outer cs k.1)
@@ -152,7 +161,7 @@ module _ (names : List (List ℕ)) (are : AreUtf8 names) where
   part_is (Some c) k = IsUtf8-append (codes " / ") (condition_text names c) (ascii_is (codes " / ") refl) (condition_is c k)
 
   -- a rule in which each variable stands at a place of its class
-  pub rule_in_class : (r : Rule) → AreInClass r.left → AreInClass r.right → IsInClassIfGiven r.condition → IsUtf8 (written names r)
+  pub rule_in_class : (r : UnmarkedRule) → AreInClass r.left → AreInClass r.right → IsInClassIfGiven r.condition → IsUtf8 (written names r)
   rule_in_class r left right condition =
       let part : List ℕ = condition_part names r.condition in
       let behind : List ℕ = side_text names r.right ++ (part ++ codes ".") in
@@ -161,7 +170,7 @@ module _ (names : List (List ℕ)) (are : AreUtf8 names) where
       IsUtf8-append (side_text names r.left) (codes " == " ++ behind) (side_is r.left left) (IsUtf8-append (codes " == ") behind (ascii_is (codes " == ") refl) follows)
 
 -- a rule that was read
-pub rule_text_is : (names : List (List ℕ)) (n : ℕ) (r : Rule) → AreUtf8 names → IsWellRead n r → IsUtf8 (written names r)
+pub rule_text_is : (names : List (List ℕ)) (n : ℕ) (r : UnmarkedRule) → AreUtf8 names → IsWellRead n r → IsUtf8 (written names r)
 rule_text_is names n r are well = rule_in_class names are r well.left.in_class well.right.in_class (if_given r.condition well.condition)
   where
     if_given : (o : Option Condition) → IsWellReadIfGiven n o → IsInClassIfGiven o

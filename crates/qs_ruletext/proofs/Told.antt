@@ -13,10 +13,10 @@ use Rattle.qs_pattern.specs.declared.variable.Var.{Var}
 use Rattle.qs_pattern.specs.declared.pattern.Head.{Head}
 use Rattle.qs_pattern.specs.declared.pattern.Head.TheVariants as head
 use Rattle.qs_pattern.specs.Variables.{IsLabelVar, IsTreeVar, IsForestVar}
-use Rattle.qs_pattern.specs.Conditions.{Condition, Conditions, no_condition, condition_first, IsConditionInClass, AreConditionsInClass, HasEnoughMembers, HaveEnoughMembers}
-use Rattle.qs_pattern.specs.Rules.{Rule}
+use Rattle.qs_pattern.specs.Conditions.{Condition, Conditions, no_condition, condition_first, IsConditionInClass, EachListOfAll, HasEnoughMembers, HaveEnoughMembers}
+use Rattle.qs_pattern.specs.Rules.{UnmarkedRule}
 use Rattle.qs_pattern.specs.Patterns.{Patterns, no_pattern, node_first, tree_var_first, forest_var_first, count, IsHeadInClass, AreInClass, NoForestAtTop}
-use Rattle.qs_ruletext.specs.Reading.{IsHeadOf, IsVariableOf, joined, ReadsTree, reads_node, reads_tree_variable, ReadsSubtrees, no_parentheses, nothing_inside, list_inside, ReadsList, reads_list, ReadsMoreItems, no_more_items, one_more_item, ReadsItem, reads_tree, reads_forest_variable, ReadsMoreTrees, no_more_trees, one_more_tree, ReadsSide, reads_side, any_of, all_of, ReadsCond, reads_cond, ReadsMoreConjs, no_more_conjs, one_more_conj, ReadsConj, reads_conj, ReadsMoreNegs, no_more_negs, one_more_neg, ReadsNeg, not_negated, reads_negated, ReadsPrim, reads_group, reads_within, reads_outside}
+use Rattle.qs_ruletext.specs.Reading.{IsHeadOf, IsVariableOf, joined, ReadsTree, reads_node, reads_tree_variable, ReadsSubtrees, no_parentheses, nothing_inside, list_inside, ReadsList, reads_list, ReadsMoreItems, no_more_items, one_more_item, ReadsItem, reads_tree, reads_forest_variable, ReadsMoreTrees, no_more_trees, one_more_tree, ReadsSide, reads_side, any_of, all_of, ReadsCond, reads_cond, ReadsMoreConjs, no_more_conjs, one_more_conj, ReadsConj, reads_conj, ReadsMoreNegs, no_more_negs, one_more_neg, ReadsNeg, not_negated, reads_negated, ReadsPrim, reads_group, reads_compared}
 use Rattle.qs_ruletext.specs.Rules.{ReadsCondIfGiven, no_cond, some_cond, ReadsRule, reads_rule, ReadsRules, IsWellRead, IsWellReadIfGiven}
 use Rattle.qs_ruletext.specs.WrittenRules.{WrittenRule}
 use Rattle.std.specs.List.{All}
@@ -127,7 +127,7 @@ abbrev ToldCondition : ℕ → Condition → Type 0
 ToldCondition n c = IsConditionNamed n c × IsConditionInClass c × HasEnoughMembers c
 
 abbrev ToldConditions : ℕ → Conditions → Type 0
-ToldConditions n cs = AreConditionsNamed n cs × AreConditionsInClass cs × HaveEnoughMembers cs
+ToldConditions n cs = AreConditionsNamed n cs × EachListOfAll AreInClass cs × HaveEnoughMembers cs
 
 told_any : (n : ℕ) (c : Condition) (cs : Conditions) → ToldCondition n c → ToldConditions n cs → ToldCondition n (any_of c cs)
 told_any n c no_condition a b = a
@@ -158,10 +158,9 @@ mutual
 
   told_prim : {names : List (List ℕ)} {text : List ℕ} {ts rest : List Token} {c : Condition} → ReadsPrim names text ts c rest → ToldCondition (length names) c
   told_prim (reads_group e c f) = told_cond c
-  told_prim (reads_within a e b) = let x = told_list a in let y = told_list b in ((x.0, y.0), (x.1, y.1), tt)
-  told_prim (reads_outside a e b) = let x = told_list a in let y = told_list b in ((x.0, y.0), (x.1, y.1), tt)
+  told_prim (reads_compared a e b) = let x = told_list a in let y = told_list b in ((x.0, y.0), (x.1, y.1), tt)
 
-pub told_rule : {names : List (List ℕ)} {text : List ℕ} {ts rest : List Token} {r : Rule} → ReadsRule names text ts r rest → IsWellRead (length names) r
+pub told_rule : {names : List (List ℕ)} {text : List ℕ} {ts rest : List Token} {r : UnmarkedRule} → ReadsRule names text ts r rest → IsWellRead (length names) r
 told_rule (reads_rule {left} {right} {condition} l e r given f) =
     let a = told_side l in
     let b = told_side r in

@@ -10,10 +10,10 @@ use Rattle.qs_lex.proofs.Meanings.{IsOne, is_one, AreMany, none_left, one_behind
 use Rattle.qs_pattern.specs.declared.pattern.Head.{Head}
 use Rattle.qs_pattern.specs.declared.pattern.Head.TheVariants as head
 use Rattle.qs_pattern.specs.Patterns.{Patterns, no_pattern, node_first}
-use Rattle.qs_pattern.specs.Conditions.{Condition, Conditions, within, outside}
+use Rattle.qs_pattern.specs.Conditions.{within, outside, Condition, Conditions, compared}
 use Rattle.qs_ruletext.specs.WrittenRules.{WrittenRule}
 use Rattle.qs_ruletext.specs.Grammar.{Part, rule, side, tree, list, item, cond, conj, neg, prim, line}
-use Rattle.qs_ruletext.specs.Reading.{IsHeadOf, ReadsTree, reads_node, reads_tree_variable, ReadsSubtrees, no_parentheses, nothing_inside, list_inside, ReadsList, reads_list, ReadsMoreItems, no_more_items, one_more_item, ReadsItem, reads_tree, reads_forest_variable, ReadsMoreTrees, no_more_trees, one_more_tree, ReadsSide, reads_side, ReadsCond, reads_cond, ReadsMoreConjs, no_more_conjs, one_more_conj, ReadsConj, reads_conj, ReadsMoreNegs, no_more_negs, one_more_neg, ReadsNeg, not_negated, reads_negated, ReadsPrim, reads_group, reads_within, reads_outside}
+use Rattle.qs_ruletext.specs.Reading.{IsHeadOf, ReadsTree, reads_node, reads_tree_variable, ReadsSubtrees, no_parentheses, nothing_inside, list_inside, ReadsList, reads_list, ReadsMoreItems, no_more_items, one_more_item, ReadsItem, reads_tree, reads_forest_variable, ReadsMoreTrees, no_more_trees, one_more_tree, ReadsSide, reads_side, ReadsCond, reads_cond, ReadsMoreConjs, no_more_conjs, one_more_conj, ReadsConj, reads_conj, ReadsMoreNegs, no_more_negs, one_more_neg, ReadsNeg, not_negated, reads_negated, ReadsPrim, reads_group, reads_compared}
 use Rattle.qs_ruletext.specs.Rules.{cell_bytes, ReadsCondIfGiven, no_cond, some_cond, reads_rule, ReadsWrittenRule}
 use Rattle.qs_ruletext.proofs.KnownTokens.{IsKnown}
 
@@ -120,8 +120,8 @@ module _ (names : List (List ℕ)) (text : List ℕ) where
 
   comparison_of : {a b c d : List Token} → (p : Patterns) × ReadsList names text a p b → One (the_word Dans) b c ⊎ One (the_word Hors) b c → (p : Patterns) × ReadsList names text c p d
       → (p : Condition) × ReadsPrim names text a p d
-  comparison_of p (inl (is_one e k)) q = (within p.0 q.0, reads_within p.1 e q.1)
-  comparison_of p (inr (is_one e k)) q = (outside p.0 q.0, reads_outside p.1 e q.1)
+  comparison_of p (inl (is_one e k)) q = (compared within p.0 q.0, reads_compared p.1 e q.1)
+  comparison_of p (inr (is_one e k)) q = (compared outside p.0 q.0, reads_compared p.1 e q.1)
 
   prim_of : {ts rest : List Token} → Meaning prim ts rest → Meant prim ts rest
   prim_of (inl m) = group_of m.1 m.2.1 m.2.2

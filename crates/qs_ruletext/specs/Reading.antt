@@ -3,6 +3,7 @@
 use Rattle.std.specs.Prelude.{◌≡◌, ℕ, List, ◌∷◌, Some, slice_get}
 use Rattle.qs_lex.specs.declared.token.Token.{Token}
 use Rattle.qs_lex.specs.declared.token.Kind.TheVariants.{Variable}
+use Rattle.qs_lex.specs.declared.token.Word.{Word}
 use Rattle.qs_lex.specs.declared.token.Word.TheVariants.{Dans, Hors, Et, Ou, Non}
 use Rattle.qs_lex.specs.Tokens.{HasLabelText}
 use Rattle.qs_lex.specs.Grammar.{Sort, a_label_variable, a_tree_variable, a_forest_variable, the_word, opening, closing, comma, plus, IsOf}
@@ -11,7 +12,7 @@ use Rattle.qs_pattern.specs.declared.variable.Var.{Var}
 use Rattle.qs_pattern.specs.declared.pattern.Head.{Head}
 use Rattle.qs_pattern.specs.declared.pattern.Head.TheVariants as head
 use Rattle.qs_pattern.specs.Patterns.{Patterns, no_pattern, node_first, tree_var_first, forest_var_first}
-use Rattle.qs_pattern.specs.Conditions.{Condition, Conditions, within, outside, negated, all, any, no_condition, condition_first}
+use Rattle.qs_pattern.specs.Conditions.{Comparing, within, outside, all, any, Condition, Conditions, compared, negated, combined, no_condition, condition_first}
 
 -- the token is a label, bare or quoted, and this label is the number of its text
 pub record IsLabelOf (names : List (List ℕ)) (text : List ℕ) (t : Token) (label : Label) : Type 0 where
@@ -82,12 +83,17 @@ pub data ReadsSide (names : List (List ℕ)) (text : List ℕ) : List Token → 
 -- a cond of one conj is that conj; of several it is `any` of them in order
 abbrev pub any_of : Condition → Conditions → Condition
 any_of c no_condition = c
-any_of c (condition_first d ds) = any (condition_first c (condition_first d ds))
+any_of c (condition_first d ds) = combined any (condition_first c (condition_first d ds))
 
 -- a conj of one neg is that neg; of several it is `all` of them in order
 abbrev pub all_of : Condition → Conditions → Condition
 all_of c no_condition = c
-all_of c (condition_first d ds) = all (condition_first c (condition_first d ds))
+all_of c (condition_first d ds) = combined all (condition_first c (condition_first d ds))
+
+-- the word that stands between two lists that are compared
+abbrev pub comparing_word : Comparing → Word
+comparing_word within = Dans
+comparing_word outside = Hors
 
 mutual
   -- cond = conj { -OU- conj }
@@ -122,7 +128,6 @@ mutual
   pub data ReadsPrim (names : List (List ℕ)) (text : List ℕ) : List Token → Condition → List Token → Type 0 where
     reads_group : {t u : Token} {ts rest : List Token} {c : Condition}
         → IsOf opening t → ReadsCond names text ts c (u ∷ rest) → IsOf closing u → ReadsPrim names text (t ∷ ts) c rest
-    reads_within : {t : Token} {ts middle rest : List Token} {a b : Patterns}
-        → ReadsList names text ts a (t ∷ middle) → IsOf (the_word Dans) t → ReadsList names text middle b rest → ReadsPrim names text ts (within a b) rest
-    reads_outside : {t : Token} {ts middle rest : List Token} {a b : Patterns}
-        → ReadsList names text ts a (t ∷ middle) → IsOf (the_word Hors) t → ReadsList names text middle b rest → ReadsPrim names text ts (outside a b) rest
+    reads_compared : {word : Comparing} {t : Token} {ts middle rest : List Token} {a b : Patterns}
+        → ReadsList names text ts a (t ∷ middle) → IsOf (the_word (comparing_word word)) t → ReadsList names text middle b rest
+        → ReadsPrim names text ts (compared word a b) rest

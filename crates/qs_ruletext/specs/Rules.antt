@@ -6,7 +6,7 @@ use Rattle.qs_lex.specs.declared.token.Kind.TheVariants.{Bare, Quoted, Variable}
 use Rattle.qs_lex.specs.Grammar.{slash, equals, stop, IsOf, part, repeated, IsWhole, Begins}
 use Rattle.qs_pattern.specs.Patterns.{Patterns, count, AreInClass, NoForestAtTop}
 use Rattle.qs_pattern.specs.Conditions.{Condition, IsConditionInClass, HasEnoughMembers}
-use Rattle.qs_pattern.specs.Rules.{Rule}
+use Rattle.qs_pattern.specs.Rules.{UnmarkedRule}
 use Rattle.qs_ruletext.specs.WrittenRules.{WrittenRule}
 use Rattle.qs_ruletext.specs.declared.raw.TextEnd.{TextEnd}
 use Rattle.qs_ruletext.specs.declared.raw.TextEnd.TheVariants.{Syntax, Memory}
@@ -33,7 +33,7 @@ pub data ReadsCondIfGiven (names : List (List ℕ)) (text : List ℕ) : List Tok
       → IsOf slash t → ReadsCond names text ts c rest → ReadsCondIfGiven names text (t ∷ ts) (Some c) rest
 
 -- rule = side "==" side [ "/" cond ] "."
-pub data ReadsRule (names : List (List ℕ)) (text : List ℕ) : List Token → Rule → List Token → Type 0 where
+pub data ReadsRule (names : List (List ℕ)) (text : List ℕ) : List Token → UnmarkedRule → List Token → Type 0 where
   reads_rule : {t u : Token} {ts middle end rest : List Token} {left right : Patterns} {condition : Option Condition}
       → ReadsSide names text ts left (t ∷ middle) → IsOf equals t → ReadsSide names text middle right end
       → ReadsCondIfGiven names text end condition (u ∷ rest) → IsOf stop u
@@ -57,7 +57,7 @@ abbrev pub IsWellReadIfGiven : ℕ → Option Condition → Type 0
 IsWellReadIfGiven n None = Unit {0}
 IsWellReadIfGiven n (Some c) = IsWellReadCondition n c
 
-pub record IsWellRead (n : ℕ) (r : Rule) : Type 0 where
+pub record IsWellRead (n : ℕ) (r : UnmarkedRule) : Type 0 where
   pub left : IsWellReadSide n r.left
   pub right : IsWellReadSide n r.right
   pub condition : IsWellReadIfGiven n r.condition

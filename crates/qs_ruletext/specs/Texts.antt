@@ -4,13 +4,16 @@ use Rattle.std.specs.Prelude.{ℕ, nat_le, if◌then◌else◌, List, [], ◌∷
 use Rattle.std.specs.List.{flat_map}
 use Rattle.qs_tree.specs.Text.{name_of, label_text}
 use Rattle.qs_lex.specs.Characters.{star}
-use Rattle.qs_lex.specs.Spelling.{suffix_of}
+use Rattle.qs_lex.specs.declared.token.Word.{Word}
+use Rattle.qs_lex.specs.declared.token.Word.TheVariants.{Et, Ou}
+use Rattle.qs_lex.specs.Spelling.{suffix_of, between_dashes, name_of as word_name}
 use Rattle.qs_pattern.specs.declared.variable.Var.{Var}
 use Rattle.qs_pattern.specs.declared.pattern.Head.{Head}
 use Rattle.qs_pattern.specs.declared.pattern.Head.TheVariants as head
 use Rattle.qs_pattern.specs.declared.pattern.Pattern.{Pattern}
 use Rattle.qs_pattern.specs.Patterns.{Patterns, no_pattern, node_first, tree_var_first, forest_var_first, one_pattern}
-use Rattle.qs_pattern.specs.Conditions.{Condition, Conditions, within, outside, negated, all, any, no_condition, condition_first}
+use Rattle.qs_pattern.specs.Conditions.{Joining, all, any, Condition, Conditions, compared, negated, combined, no_condition, condition_first}
+use Rattle.qs_ruletext.specs.Reading.{comparing_word}
 
 -- These texts one behind the other, with one that stands between two of them.
 abbrev pub joined : List ℕ → List (List ℕ) → List ℕ
@@ -52,33 +55,40 @@ abbrev pub side_text : List (List ℕ) → Patterns → List ℕ
 side_text names side = joined (codes " + ") (pattern_texts names side)
 
 -- How tightly a condition holds its members together: `-NON-` more than `-ET-`, and `-ET-` more than `-OU-`.
+abbrev pub joining_tightness : Joining → ℕ
+joining_tightness all = 2
+joining_tightness any = 1
+
 abbrev pub tightness : Condition → ℕ
-tightness (within a b) = 4
-tightness (outside a b) = 4
+tightness (compared word a b) = 4
 tightness (negated c) = 3
-tightness (all cs) = 2
-tightness (any cs) = 1
+tightness (combined word cs) = joining_tightness word
 
 -- The text of a member of a condition of this tightness: in parentheses where it isn't tighter.
 abbrev pub member_text : ℕ → Condition → List ℕ → List ℕ
 member_text outer member text = if nat_le (tightness member) outer then in_parentheses text else text
 
+-- A word as it stands between two lists or two members, with a space on both sides; and which it is.
+abbrev pub spaced_word : Word → List ℕ
+spaced_word word = codes " " ++ (between_dashes (word_name word) ++ codes " ")
+
+abbrev pub joining_word : Joining → Word
+joining_word all = Et
+joining_word any = Ou
+
 -- The word of a condition, as it stands between its lists or its members, or before its one member.
 abbrev pub word_of : Condition → List ℕ
-word_of (within a b) = codes " -DANS- "
-word_of (outside a b) = codes " -HORS- "
+word_of (compared word a b) = spaced_word (comparing_word word)
 word_of (negated c) = codes "-NON- "
-word_of (all cs) = codes " -ET- "
-word_of (any cs) = codes " -OU- "
+word_of (combined word cs) = spaced_word (joining_word word)
 
 -- How a condition is written: `U* -DANS- V*`, `-NON- U* -HORS- X,Y`, members joined by ` -ET- ` and by ` -OU- `.
 abbrev mutual
   pub condition_text : List (List ℕ) → Condition → List ℕ
-  condition_text names (within a b) = list_text names a ++ (word_of (within a b) ++ list_text names b)
-  condition_text names (outside a b) = list_text names a ++ (word_of (outside a b) ++ list_text names b)
-  condition_text names (negated c) = word_of (negated c) ++ member_text 3 c (condition_text names c)
-  condition_text names (all cs) = joined (word_of (all cs)) (member_texts names 2 cs)
-  condition_text names (any cs) = joined (word_of (any cs)) (member_texts names 1 cs)
+  condition_text names (compared word a b) = list_text names a ++ (spaced_word (comparing_word word) ++ list_text names b)
+  condition_text names (negated c) = codes "-NON- " ++ member_text 3 c (condition_text names c)
+  condition_text names (combined word cs) =
+      joined (spaced_word (joining_word word)) (member_texts names (joining_tightness word) cs)
 
   -- the members of a condition of this tightness
   pub member_texts : List (List ℕ) → ℕ → Conditions → List (List ℕ)

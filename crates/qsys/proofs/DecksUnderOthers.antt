@@ -8,13 +8,13 @@ use Rattle.qs_ruletext.specs.Rules.{ReadsRules}
 use Rattle.qs_clean.specs.Renaming.{renamed_label, renamed_rule}
 use Rattle.qs_deck.specs.WrittenDecks.{WrittenSystem, WrittenDeck}
 use Rattle.qs_deck.specs.Reading.{ReadsSystem, reads_system, ReadsSystems, ReadsDeck}
-use Rattle.qs_deck.specs.Decks.{meaning_of}
+use Rattle.qs_deck.specs.Decks.{rule_of, meaning_of}
 use Rattle.qsys.proofs.RenamedGrammars.{Carries, renamed_chain, renamed_grammar}
-use Rattle.qsys.proofs.ReadUnderOthers.{label_under, rule_under, graph_under}
+use Rattle.qsys.proofs.ReadUnderOthers.{renamed_unmarked, label_under, rule_under, graph_under}
 
 -- a rule, a system and a deck that were read have their labels written so; all places stay
 abbrev pub renamed_written : (ℕ → ℕ) → WrittenRule → WrittenRule
-renamed_written g written = record { rule = renamed_rule g written.rule; at = written.at }
+renamed_written g written = record { rule = renamed_unmarked g written.rule; at = written.at }
 
 abbrev pub renamed_system : (ℕ → ℕ) → WrittenSystem → WrittenSystem
 renamed_system g system = record { at = system.at; name = renamed_label g system.name; rules = map (renamed_written g) system.rules }
@@ -23,9 +23,9 @@ abbrev pub renamed_deck : (ℕ → ℕ) → WrittenDeck → WrittenDeck
 renamed_deck g deck = record { systems = map (renamed_system g) deck.systems; graph_at = deck.graph_at; chains = map (renamed_chain g) deck.chains }
 
 module _ (g : ℕ → ℕ) where
-  rules_renamed : (rules : List WrittenRule) → map (λ (written : WrittenRule). written.rule) (map (renamed_written g) rules) ≡ map (renamed_rule g) (map (λ (written : WrittenRule). written.rule) rules)
+  rules_renamed : (rules : List WrittenRule) → map rule_of (map (renamed_written g) rules) ≡ map (renamed_rule g) (map rule_of rules)
   rules_renamed [] = refl
-  rules_renamed (r ∷ rules) = ap (λ (rs : List Rule). renamed_rule g r.rule ∷ rs) (rules_renamed rules)
+  rules_renamed (r ∷ rules) = ap (λ (rs : List Rule). renamed_rule g (rule_of r) ∷ rs) (rules_renamed rules)
 
   -- what it means has its labels written so
   pub meanings_renamed : (systems : List WrittenSystem) → map meaning_of (map (renamed_system g) systems) ≡ map (renamed_grammar g) (map meaning_of systems)

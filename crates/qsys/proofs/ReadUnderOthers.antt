@@ -1,6 +1,6 @@
 -- What is read under some names is read under others that hold the same texts, with other numbers for the labels: a rule, and
 -- the chains of a graph. And the graph that such chains make is the graph of the chains, with other numbers too.
-use Rattle.std.proofs.Common.{◌≡◌, ℕ, ◌+◌, ◌-◌, refl, sym, ◌∙◌, ap, subst, List, [], ◌∷◌, ◌++◌, map, Option, option_map}
+use Rattle.std.proofs.Common.{◌≡◌, ℕ, ◌+◌, ◌-◌, false, refl, sym, ◌∙◌, ap, subst, List, [], ◌∷◌, ◌++◌, map, Option, option_map}
 use Rattle.std.proofs.lemmas.List.{length-map, map-append}
 use Rattle.qs_lex.specs.declared.token.Token.{Token}
 use Rattle.qs_tree.specs.declared.cell.Label.{Label}
@@ -9,8 +9,8 @@ use Rattle.qs_pattern.specs.declared.pattern.Head.{Head}
 use Rattle.qs_pattern.specs.declared.pattern.Head.TheVariants as head
 use Rattle.qs_pattern.specs.Patterns.{Patterns, no_pattern, node_first, tree_var_first, forest_var_first}
 use Rattle.qs_pattern.specs.Conditions.{Condition, Conditions, no_condition, condition_first}
-use Rattle.qs_pattern.specs.Rules.{Rule}
-use Rattle.qs_ruletext.specs.Reading.{IsLabelOf, IsHeadOf, joined, ReadsTree, reads_node, reads_tree_variable, ReadsSubtrees, no_parentheses, nothing_inside, list_inside, ReadsList, reads_list, ReadsMoreItems, no_more_items, one_more_item, ReadsItem, reads_tree, reads_forest_variable, ReadsMoreTrees, no_more_trees, one_more_tree, ReadsSide, reads_side, any_of, all_of, ReadsCond, reads_cond, ReadsMoreConjs, no_more_conjs, one_more_conj, ReadsConj, reads_conj, ReadsMoreNegs, no_more_negs, one_more_neg, ReadsNeg, not_negated, reads_negated, ReadsPrim, reads_group, reads_within, reads_outside}
+use Rattle.qs_pattern.specs.Rules.{UnmarkedRule, marked, unmarked}
+use Rattle.qs_ruletext.specs.Reading.{IsLabelOf, IsHeadOf, joined, ReadsTree, reads_node, reads_tree_variable, ReadsSubtrees, no_parentheses, nothing_inside, list_inside, ReadsList, reads_list, ReadsMoreItems, no_more_items, one_more_item, ReadsItem, reads_tree, reads_forest_variable, ReadsMoreTrees, no_more_trees, one_more_tree, ReadsSide, reads_side, any_of, all_of, ReadsCond, reads_cond, ReadsMoreConjs, no_more_conjs, one_more_conj, ReadsConj, reads_conj, ReadsMoreNegs, no_more_negs, one_more_neg, ReadsNeg, not_negated, reads_negated, ReadsPrim, reads_group, reads_compared}
 use Rattle.qs_ruletext.specs.Rules.{ReadsCondIfGiven, no_cond, some_cond, ReadsRule, reads_rule}
 use Rattle.qs_graph.specs.Graphs.{QGraph}
 use Rattle.qs_graph.specs.Chains.{chain, with_chain}
@@ -20,6 +20,10 @@ use Rattle.qs_graphtext.specs.Reading.{ReadsPlain, reads_plain, plains_inside, R
 use Rattle.qs_graphtext.specs.GraphOfChains.{numbers_in, different, dense, with_chains, graph_of}
 use Rattle.qs_clean.specs.Renaming.{renamed_label, renamed_forest, renamed_tree, renamed_head, renamed_patterns, renamed_condition, renamed_conditions, renamed_rule, renamed_arc, renamed_graph}
 use Rattle.qsys.proofs.RenamedGrammars.{Carries, renamed_chain}
+
+-- a rule as it was read, with other numbers
+abbrev pub renamed_unmarked : (ℕ → ℕ) → UnmarkedRule → UnmarkedRule
+renamed_unmarked g rule = unmarked (renamed_rule g (marked false rule))
 
 -- ---- lists of patterns and of conditions
 
@@ -110,15 +114,14 @@ module _ (g : ℕ → ℕ) (others names : List (List ℕ)) (carries : Carries g
 
     prim_under : {ts rest : List Token} {c : Condition} → ReadsPrim others text ts c rest → ReadsPrim names text ts (renamed_condition g c) rest
     prim_under (reads_group o inside c) = reads_group o (cond_under inside) c
-    prim_under (reads_within a word b) = reads_within (list_under a) word (list_under b)
-    prim_under (reads_outside a word b) = reads_outside (list_under a) word (list_under b)
+    prim_under (reads_compared a word b) = reads_compared (list_under a) word (list_under b)
 
   given_under : {ts rest : List Token} {c : Option Condition} → ReadsCondIfGiven others text ts c rest → ReadsCondIfGiven names text ts (option_map (renamed_condition g) c) rest
   given_under no_cond = no_cond
   given_under (some_cond slash cond) = some_cond slash (cond_under cond)
 
   -- rules
-  pub rule_under : {ts rest : List Token} {r : Rule} → ReadsRule others text ts r rest → ReadsRule names text ts (renamed_rule g r) rest
+  pub rule_under : {ts rest : List Token} {r : UnmarkedRule} → ReadsRule others text ts r rest → ReadsRule names text ts (renamed_unmarked g r) rest
   rule_under (reads_rule left equals right given stop) = reads_rule (side_under left) equals (side_under right) (given_under given) stop
 
   -- trees of chains, which have no variables

@@ -1,7 +1,6 @@
 use Rattle.std.proofs.Common.{◌++◌, sym, ◌∙◌, ap}
 use Rattle.qs_pattern.specs.Conditions.{conditions}
-use Rattle.qs_check.specs.Cells.{written_conditions}
-use Rattle.qs_check.proofs.Written.{conditions_done, written_members}
+use Rattle.qs_check.proofs.Written.{written_conditions, conditions_done, written_members}
 use Rattle.qs_check.proofs.cells.+add_condition.Goals as goal
 
 pub returns-after-loop-member : goal.returns-after-loop-member

@@ -1,6 +1,6 @@
 use Rattle.std.proofs.Common.{◌≡◌, ◌++◌, drop}
 use Rattle.qs_pattern.specs.Conditions.{conditions}
-use Rattle.qs_check.specs.Cells.{written_conditions}
+use Rattle.qs_check.proofs.Written.{written_conditions}
 use Rattle.qs_check.proofs.cells.+add_condition.Given as goal
 
 abbrev pub invariant-loop-member : goal.invariant-loop-member

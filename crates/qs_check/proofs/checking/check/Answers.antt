@@ -1,5 +1,5 @@
 use Rattle.std.proofs.Common.{length, slice_get, sym, ◌∙◌, ap, arith}
-use Rattle.qs_pattern.specs.Rules.{Rule}
+use Rattle.qs_pattern.specs.Rules.{UnmarkedRule}
 use Rattle.qs_ruletext.specs.WrittenRules.{WrittenRule}
 use Rattle.qs_check.specs.Causes.{IsFirstCause}
 use Rattle.qs_check.proofs.Among.{at_place}
@@ -8,13 +8,13 @@ use Rattle.qs_check.proofs.checking.check.Goals as goal
 
 pub index-requires : goal.index-requires
 index-requires c =
-    let rule : Rule = c.args.raw.rule in
+    let rule : UnmarkedRule = c.args.raw.rule in
     let first : IsFirstCause rule c.in-Some.cause c.in-Some.place = some_case _ _ _ _ c.in-Some.is c.in_ok-cause.ensures in
     omega (arith, place_within rule c.in-Some.cause c.in-Some.place first, c.requires.bytes, c.raw.inside.at.ok.0, ap (λ (w : WrittenRule). length w.at) c.raw.view_is)
 
 pub returns-in-Some-clause-refused : goal.returns-in-Some-clause-refused
 returns-in-Some-clause-refused c =
-    let rule : Rule = c.args.raw.rule in
+    let rule : UnmarkedRule = c.args.raw.rule in
     let first : IsFirstCause rule c.in-Some.cause c.in-Some.place = some_case _ _ _ _ c.in-Some.is c.in_ok-cause.ensures in
     let within = place_within rule c.in-Some.cause c.in-Some.place first in
     let long = ap (λ (w : WrittenRule). length w.at) c.raw.view_is in

@@ -7,7 +7,7 @@ use Rattle.qs_pattern.specs.declared.pattern.Head.{Head}
 use Rattle.qs_pattern.specs.declared.pattern.Pattern.{Pattern}
 use Rattle.qs_pattern.specs.Variables.{firsts}
 use Rattle.qs_pattern.specs.Patterns.{Patterns, patterns, count, cells, variables_in}
-use Rattle.qs_pattern.specs.Rules.{Rule, rule_cells, rule_variables, variables_behind}
+use Rattle.qs_pattern.specs.Rules.{UnmarkedRule, rule_cells, rule_variables, variables_behind}
 use Rattle.qs_check.specs.Cells.{written, written_rule, variables_among}
 use Rattle.qs_check.specs.Causes.{Has17th, Has33rd, HasUnbound, IsFirstCause, left_too_long, right_too_long, too_many_cells, too_many_variables, unbound}
 use Rattle.qs_ruletext.specs.WrittenRules.{WrittenRule}
@@ -17,13 +17,13 @@ use Rattle.qs_check.proofs.checking.first_cause.Goals as goal
 
 pub returns-in-Some : goal.returns-in-Some
 returns-in-Some c =
-    let rule : Rule = c.args.raw.now.rule in
+    let rule : UnmarkedRule = c.args.raw.now.rule in
     let left_is : patterns c.deref.result.now ≡ rule.left = ap patterns c.deref.ensures.value ∙ ap (λ (w : WrittenRule). w.rule.left) c.raw.view_is in
     left_too_long (subst (λ (ps : Patterns). Has17th ps c.in-Some.place) left_is (some_case _ _ _ c.in-Some.place c.in-Some.is c.in_ok-place.ensures))
 
 pub overflow_add-result : goal.overflow_add-result
 overflow_add-result c =
-    let rule : Rule = c.args.raw.now.rule in
+    let rule : UnmarkedRule = c.args.raw.now.rule in
     let left_is : patterns c.deref.result.now ≡ rule.left = ap patterns c.deref.ensures.value ∙ ap (λ (w : WrittenRule). w.rule.left) c.raw.view_is in
     let short : count rule.left ≤ 16 = subst (λ (ps : Patterns). count ps ≤ 16) left_is (none_case _ _ _ c.in_default.is c.in_ok-place.ensures) in
     let right_is : patterns c.deref-2.result.now ≡ rule.right = ap patterns c.deref-2.ensures.value ∙ ap (λ (w : WrittenRule). w.rule.right) c.raw.view_is in
@@ -48,7 +48,7 @@ overflow_add-result c =
 
 pub returns-in-Some-2 : goal.returns-in-Some-2
 returns-in-Some-2 c =
-    let rule : Rule = c.args.raw.now.rule in
+    let rule : UnmarkedRule = c.args.raw.now.rule in
     let left_is : patterns c.deref.result.now ≡ rule.left = ap patterns c.deref.ensures.value ∙ ap (λ (w : WrittenRule). w.rule.left) c.raw.view_is in
     let short : count rule.left ≤ 16 = subst (λ (ps : Patterns). count ps ≤ 16) left_is (none_case _ _ _ c.in_default.is c.in_ok-place.ensures) in
     let right_is : patterns c.deref-2.result.now ≡ rule.right = ap patterns c.deref-2.ensures.value ∙ ap (λ (w : WrittenRule). w.rule.right) c.raw.view_is in
@@ -60,7 +60,7 @@ returns-in-Some-2 c =
 
 pub returns-then-len-gt256 : goal.returns-then-len-gt256
 returns-then-len-gt256 c =
-    let rule : Rule = c.args.raw.now.rule in
+    let rule : UnmarkedRule = c.args.raw.now.rule in
     let left_is : patterns c.deref.result.now ≡ rule.left = ap patterns c.deref.ensures.value ∙ ap (λ (w : WrittenRule). w.rule.left) c.raw.view_is in
     let left : count rule.left ≤ 16 = subst (λ (ps : Patterns). count ps ≤ 16) left_is (none_case _ _ _ c.in_default.is c.in_ok-place.ensures) in
     let right_is : patterns c.deref-2.result.now ≡ rule.right = ap patterns c.deref-2.ensures.value ∙ ap (λ (w : WrittenRule). w.rule.right) c.raw.view_is in
@@ -70,7 +70,7 @@ returns-then-len-gt256 c =
 
 pub returns-in-Some-3 : goal.returns-in-Some-3
 returns-in-Some-3 c =
-    let rule : Rule = c.args.raw.now.rule in
+    let rule : UnmarkedRule = c.args.raw.now.rule in
     let left_is : patterns c.deref.result.now ≡ rule.left = ap patterns c.deref.ensures.value ∙ ap (λ (w : WrittenRule). w.rule.left) c.raw.view_is in
     let left : count rule.left ≤ 16 = subst (λ (ps : Patterns). count ps ≤ 16) left_is (none_case _ _ _ c.in_default.is c.in_ok-place.ensures) in
     let right_is : patterns c.deref-2.result.now ≡ rule.right = ap patterns c.deref-2.ensures.value ∙ ap (λ (w : WrittenRule). w.rule.right) c.raw.view_is in
@@ -82,7 +82,7 @@ returns-in-Some-3 c =
 
 pub returns-in-Some-first_unbound : goal.returns-in-Some-first_unbound
 returns-in-Some-first_unbound c =
-    let rule : Rule = c.args.raw.now.rule in
+    let rule : UnmarkedRule = c.args.raw.now.rule in
     let left_is : patterns c.deref.result.now ≡ rule.left = ap patterns c.deref.ensures.value ∙ ap (λ (w : WrittenRule). w.rule.left) c.raw.view_is in
     let left : count rule.left ≤ 16 = subst (λ (ps : Patterns). count ps ≤ 16) left_is (none_case _ _ _ c.in_default.is c.in_ok-place.ensures) in
     let right_is : patterns c.deref-2.result.now ≡ rule.right = ap patterns c.deref-2.ensures.value ∙ ap (λ (w : WrittenRule). w.rule.right) c.raw.view_is in
@@ -98,7 +98,7 @@ returns-in-Some-first_unbound c =
 
 pub returns : goal.returns
 returns c =
-    let rule : Rule = c.args.raw.now.rule in
+    let rule : UnmarkedRule = c.args.raw.now.rule in
     let left_is : patterns c.deref.result.now ≡ rule.left = ap patterns c.deref.ensures.value ∙ ap (λ (w : WrittenRule). w.rule.left) c.raw.view_is in
     let left : count rule.left ≤ 16 = subst (λ (ps : Patterns). count ps ≤ 16) left_is (none_case _ _ _ c.in_default.is c.in_ok-place.ensures) in
     let right_is : patterns c.deref-2.result.now ≡ rule.right = ap patterns c.deref-2.ensures.value ∙ ap (λ (w : WrittenRule). w.rule.right) c.raw.view_is in

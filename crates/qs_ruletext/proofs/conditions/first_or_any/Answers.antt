@@ -1,6 +1,6 @@
 use Rattle.std.proofs.Common.{◌≤◌, sym, ap, ◌∙◌, length, arith}
 use Rattle.std.proofs.lemmas.Bool.Decides.{nat_tests}
-use Rattle.qs_pattern.specs.Conditions.{any, condition_of, conditions}
+use Rattle.qs_pattern.specs.Conditions.{any, combined, condition_of, conditions}
 use Rattle.qs_pattern.proofs.ConditionLemmas.{condition-Any}
 use Rattle.qs_ruletext.proofs.ConditionSteps.{any_of_several}
 use Rattle.qs_ruletext.proofs.conditions.first_or_any.Goals as goal
@@ -8,4 +8,4 @@ use Rattle.qs_ruletext.proofs.conditions.first_or_any.Goals as goal
 pub returns : goal.returns
 returns c =
     let some : 1 ≤ length c.args.more.items = grind (arith, nat_tests, c.is_empty.ensures, c.if-is_empty.false, c.args.more.ok.0) in
-    condition-Any c.insert.new.self ∙ ap any (ap conditions c.in_ok-insert.ensures.items) ∙ sym (any_of_several (condition_of c.args.first) c.args.more.items some)
+    condition-Any c.insert.new.self ∙ ap (combined any) (ap conditions c.in_ok-insert.ensures.items) ∙ sym (any_of_several (condition_of c.args.first) c.args.more.items some)

@@ -1,0 +1,14 @@
+-- The limits of rules. The numbers are this project's own.
+use Rattle.std.specs.Prelude.{ℕ}
+
+-- the most patterns that a side of a rule may have
+abbrev pub most_patterns : ℕ
+most_patterns = 16
+
+-- the most labels and variables that may be written in a rule
+abbrev pub most_cells : ℕ
+most_cells = 256
+
+-- the most different variables that a rule may have
+abbrev pub most_variables : ℕ
+most_variables = 32
