@@ -11,7 +11,7 @@ use Rattle.qs_graph.specs.Graphs.{Arc, QGraph, Leads, arcs_at, trees_on}
 use Rattle.qs_graph.specs.Chains.{chain}
 use Rattle.qs_graph.proofs.Paths.{leads_more}
 use Rattle.qs_firing.specs.Firings.{Firing, Fires}
-use Rattle.qs_firing.specs.Adding.{start_of, end_of, built}
+use Rattle.qs_firing.specs.Adding.{start_of, end_of, added, first_arc, meets}
 use Rattle.qs_canon.specs.Rounds.{Round, Rounds, Done, Stage, firings, after, after_one, start, Closes, Needs}
 use Rattle.qs_canon.proofs.Rounds.{length-after}
 use Rattle.qs_canon.proofs.Existence.{has_rounds}
@@ -94,14 +94,14 @@ module _ (arcs more : List Arc) where
 -- ---- what a round leaves
 
 -- the arcs that a firing adds
-abbrev added : List Rule → Stage → Firing → List Arc
-added R S f = chain (start_of S.graph.arcs f.path) (built R f) (S.graph.nodes + 1) (end_of S.graph.arcs f.path)
+abbrev new_arcs : List Rule → Stage → Firing → List Arc
+new_arcs R S f = chain (start_of S.graph.arcs f.path) (added R S.graph f) (S.graph.nodes + 1) (end_of S.graph.arcs f.path)
 
 pub arcs_after : (R : List Rule) (n : ℕ) (S : Stage) (F : List Firing) → (more : List Arc) × ((after R n S F).graph.arcs ≡ S.graph.arcs ++ more)
 arcs_after R n S [] = ([], sym (append-nil S.graph.arcs))
 arcs_after R n S (f ∷ fs) =
     let (more, e) = arcs_after R n (after_one R n S f) fs in
-    (added R S f ++ more, e ∙ append_assoc S.graph.arcs (added R S f) more)
+    (new_arcs R S f ++ more, e ∙ append_assoc S.graph.arcs (new_arcs R S f) more)
 
 firings_one : (ds : List Done) (d : Done) → map (λ (x : Done). x.firing) (ds ++ d ∷ []) ≡ map (λ (x : Done). x.firing) ds ++ d.firing ∷ []
 firings_one [] d = refl
@@ -110,7 +110,7 @@ firings_one (c ∷ ds) d = ap (λ fs. c.firing ∷ fs) (firings_one ds d)
 pub firings_after : (R : List Rule) (n : ℕ) (S : Stage) (F : List Firing) → firings (after R n S F) ≡ firings S ++ F
 firings_after R n S [] = sym (append-nil (firings S))
 firings_after R n S (f ∷ fs) =
-    firings_after R n (after_one R n S f) fs ∙ ap (λ gs. gs ++ fs) (firings_one S.done (record { firing = f; first = length S.graph.arcs; round = n })) ∙ append_assoc (firings S) (f ∷ []) fs
+    firings_after R n (after_one R n S f) fs ∙ ap (λ gs. gs ++ fs) (firings_one S.done (record { firing = f; first = first_arc R S.graph f; round = n; met = meets R S.graph f })) ∙ append_assoc (firings S) (f ∷ []) fs
 
 -- ---- from round to round
 

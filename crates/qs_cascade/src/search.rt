@@ -1,13 +1,14 @@
 //! The new firings of one rule: those whose path has an arc of the last round.
 
 ghost use Rattle.std.specs.Prelude.{◌≡◌, ◌<◌, ◌≤◌, ◌+◌, ◌^◌, ◌++◌, ◌∷◌, ◌↔◌, ◌⊎◌, [], ℕ, List, length, IsTrue, IfOk, OnOk, slice_get, Some};
-ghost use Rattle.qs_tree.specs.Lists.{◌∈◌};
+ghost use Rattle.qs_tree.specs.Lists.{◌∈◌, Ascends};
 ghost use Rattle.qs_tree.specs.Trees.{Tree};
 ghost use Rattle.qs_tree.specs.Cells.{tree_of};
 ghost use Rattle.qs_pattern.specs.Patterns.{one_pattern, count};
 ghost use Rattle.qs_pattern.specs.Substitutions.{Substitution};
 ghost use Rattle.qs_pattern.specs.Instances.{inst, IsMatch};
 ghost use Rattle.qs_pattern.specs.Conditions.{HoldsIfGiven};
+ghost use Rattle.qs_match.specs.Order.{LengthsBefore};
 ghost use Rattle.qs_graph.specs.Graphs.{Leads, IsPath, IsNode, trees_on};
 ghost use Rattle.qs_cascade.specs.Finding.{Finds, AreThose, firings_of, HasPath, Begins, IsNewPath};
 
@@ -110,6 +111,26 @@ fn add_matches(
     Ok(())
 }
 
+// The matches of the rule's left side with the trees on a path. The tree of a path of one arc is not copied.
+fn matches_on_path(
+    alloc: Global,
+    search: &Search<'_>,
+    path: &[u32],
+) -> Result<Vec<Subst>, AllocError>
+    requires { (a : ℕ) × (b : ℕ) × Leads search.now.arcs.now.arcs a path.now b }
+    ensures sound { IfOk result (λ v. (s : Substitution) → s ∈ v.items → IsMatch search.now.rule.now.left (trees_on search.now.arcs.now.arcs path.now) s) }
+    ensures all { IfOk result (λ v. (s : Substitution) → IsMatch search.now.rule.now.left (trees_on search.now.arcs.now.arcs path.now) s → s ∈ v.items) }
+    ensures ascending { IfOk result (λ v. Ascends LengthsBefore v.items) }
+{
+    let side = search.rule.left();
+    if let [arc] = path {
+        let tree = search.arcs.edge(*arc).tree.view();
+        return all_matches(alloc, side, tree.alone());
+    }
+    let trees = trees_on_path(alloc, search.arcs, path)?;
+    all_matches(alloc, side, trees.view())
+}
+
 // The firings of the rule on one path.
 fn fire(
     alloc: Global,
@@ -121,8 +142,7 @@ fn fire(
     requires long { length path.now ≡ count search.now.rule.now.left }
     ensures { IfOk result (λ complete. Finds (HasPath search.now.number search.now.rule.now search.now.arcs.now.arcs path.now) found.old.items found.new.items search.now.room complete) }
 {
-    let trees = trees_on_path(alloc, search.arcs, path)?;
-    let matches = all_matches(alloc, search.rule.left(), trees.view())?;
+    let matches = matches_on_path(alloc, search, path)?;
     add_matches(alloc, search, path, matches, found)?;
     Ok(found.len() <= search.room)
 }

@@ -92,7 +92,8 @@ impl Rule {
 
     /// Whether the rule is marked unique. Takes no memory.
     pub fn unique(&self) -> bool
-        ensures { result ≡ self.now.unique }
+        ensures value { result ≡ self.now.unique }
+        ensures accepted { IsAccepted self.now }
     {
         self.unique
     }

@@ -37,6 +37,13 @@ impl<'a> TreeRef<'a> {
             cells: &self.cells[1..],
         }
     }
+
+    /// The list of this tree alone, over the same cells. Takes no memory.
+    pub fn alone(self) -> ForestRef<'a>
+        ensures { trees_of result.cells.now ≡ tree_of self.entry.cells.now ∷ [] }
+    {
+        ForestRef { cells: self.cells }
+    }
 }
 
 impl<'a> ForestRef<'a> {

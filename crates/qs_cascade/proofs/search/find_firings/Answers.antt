@@ -15,10 +15,10 @@ pub extend-requires-clause-path : goal.extend-requires-clause-path
 extend-requires-clause-path c =
     let s = c.args.search.now in
     let k : ℕ = c.loop-arc.arc in
-    let path : c.deref.result.now ≡ k ∷ [] = c.deref.ensures.value ∙ c.in_ok-path.ensures in
+    let path : c.deref-in-loop-arc.result.now ≡ k ∷ [] = c.deref-in-loop-arc.ensures.value ∙ c.in_ok-path.ensures in
     let to = ap (λ (x : Arc). x.to) c.edge.view_is in (
       c.edge-edge.result.now.from,
-      subst (λ (n : ℕ). IsPath s.arcs.now.arcs c.edge-edge.result.now.from c.deref.result.now n) (sym to)
+      subst (λ (n : ℕ). IsPath s.arcs.now.arcs c.edge-edge.result.now.from c.deref-in-loop-arc.result.now n) (sym to)
           (subst (λ (js : List ℕ). IsPath s.arcs.now.arcs c.edge-edge.result.now.from js c.edge-edge.result.now.to) (sym path)
           (path_and_arc s.arcs.now.arcs c.edge-edge.result.now.from [] c.edge-edge.result.now.from k c.edge-edge.result.now refl c.edge-edge.ensures.at refl)),
     )
@@ -28,7 +28,7 @@ loop-arc-preserved-then-refuses c =
     let s = c.args.search.now in
     let k : ℕ = c.loop-arc.arc in
     let least : ℕ = c.least_start-least.result in
-    let tree = c.view.ensures ∙ ap (λ (a : Arc). a.tree) c.edge.view_is in
+    let tree = c.view.ensures ∙ c.deref.ensures ∙ ap (λ (a : Arc). a.tree) c.edge.view_is in
     let never : (r : Substitution) → inst r (one_pattern c.in-Some.pattern.now) ≡ c.edge-edge.result.now.tree ∷ [] → ⊥ =
     λ r e. c.refuses.ensures c.if-refuses.true r (e ∙ ap (λ u. u ∷ []) (sym tree)) in
     let none = refused s.number s.rule.now c.left-left.result.now s.arcs.now.arcs s.old [] k c.edge-edge.result.now c.in-Some.pattern.now
@@ -41,7 +41,7 @@ returns-then-not-branch c =
     let s = c.args.search.now in
     let k : ℕ = c.loop-arc.arc in
     let least : ℕ = c.least_start-least.result in
-    let path : c.deref.result.now ≡ k ∷ [] = c.deref.ensures.value ∙ c.in_ok-path.ensures in
+    let path : c.deref-in-loop-arc.result.now ≡ k ∷ [] = c.deref-in-loop-arc.ensures.value ∙ c.in_ok-path.ensures in
     let next : Finds (Begins s.number s.rule.now s.arcs.now.arcs s.old (k ∷ [])) c.loop-arc.found.items c.extend.new.found.items s.room false =
     subst (λ b. Finds (Begins s.number s.rule.now s.arcs.now.arcs s.old (k ∷ [])) c.loop-arc.found.items c.extend.new.found.items s.room b) c.if-not-branch.true
     (subst (λ (js : List ℕ). Finds (Begins s.number s.rule.now s.arcs.now.arcs s.old js) c.loop-arc.found.items c.extend.new.found.items s.room c.in_ok-extend.field-0) path c.in_ok-extend.ensures) in
@@ -53,7 +53,7 @@ loop-arc-preserved c =
     let s = c.args.search.now in
     let k : ℕ = c.loop-arc.arc in
     let least : ℕ = c.least_start-least.result in
-    let path : c.deref.result.now ≡ k ∷ [] = c.deref.ensures.value ∙ c.in_ok-path.ensures in
+    let path : c.deref-in-loop-arc.result.now ≡ k ∷ [] = c.deref-in-loop-arc.ensures.value ∙ c.in_ok-path.ensures in
     let next : Finds (Begins s.number s.rule.now s.arcs.now.arcs s.old (k ∷ [])) c.loop-arc.found.items c.extend.new.found.items s.room true =
     subst (λ b. Finds (Begins s.number s.rule.now s.arcs.now.arcs s.old (k ∷ [])) c.loop-arc.found.items c.extend.new.found.items s.room b) c.if-not-branch.false
     (subst (λ (js : List ℕ). Finds (Begins s.number s.rule.now s.arcs.now.arcs s.old js) c.loop-arc.found.items c.extend.new.found.items s.room c.in_ok-extend.field-0) path c.in_ok-extend.ensures) in
