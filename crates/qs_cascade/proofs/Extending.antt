@@ -2,10 +2,9 @@
 use Rattle.std.proofs.Common.{◌≡◌, ℕ, zero, suc, ◌<◌, ◌≤◌, ◌⊎◌, ◌↔◌, inl, inr, ⊎_elim, List, [], ◌∷◌, ◌++◌, length, take, get_or, refl, sym, ap, ◌∙◌, subst, arith, length-append, append-nil}
 use Rattle.qs_tree.specs.Lists.{◌∈◌, Ascends}
 use Rattle.qs_pattern.specs.Patterns.{count}
-use Rattle.qs_tree.proofs.Members.{in_append_left, in_append_right, from_append}
+use Rattle.qs_tree.proofs.Members.{in_append_left, in_append_right, from_append, in_get_or}
 use Rattle.qs_pattern.specs.Rules.{Rule}
 use Rattle.qs_graph.specs.Graphs.{Arc}
-use Rattle.qs_graph.proofs.Numbers.{in_at}
 use Rattle.qs_firing.specs.Firings.{Firing}
 use Rattle.qs_cascade.specs.Finding.{IsNewPath, Begins, HasPath}
 
@@ -13,7 +12,7 @@ use Rattle.qs_cascade.specs.Finding.{IsNewPath, Begins, HasPath}
 pub less_in_front : (ks : List ℕ) → Ascends ◌<◌ ks → (i : ℕ) → i < length ks → (j : ℕ) → j ∈ take i ks → j < get_or ks i 0
 less_in_front [] a i h j m = absurd (omega arith)
 less_in_front (k ∷ ks) a zero h j m = absurd m
-less_in_front (k ∷ ks) a (suc i) h j (inl e) = let l = a.0 (get_or ks i 0) (in_at ks i (omega arith)) in omega arith
+less_in_front (k ∷ ks) a (suc i) h j (inl e) = let l = a.0 (get_or ks i 0) (in_get_or ks i 0 (omega arith)) in omega arith
 less_in_front (k ∷ ks) a (suc i) h j (inr m) = less_in_front ks a.1 i (omega arith) j m
 
 -- a path with one more arc is new where the path was or the arc is

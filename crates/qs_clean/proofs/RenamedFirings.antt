@@ -8,7 +8,7 @@ use Rattle.std.proofs.lemmas.List.{map-append, length-map}
 use Rattle.std.proofs.lemmas.Option.{slice_get-map}
 use Rattle.qs_tree.specs.Lists.{◌∈◌}
 use Rattle.qs_tree.specs.Trees.{Tree}
-use Rattle.qs_tree.proofs.Members.{in_append_left, in_append_right}
+use Rattle.qs_tree.proofs.Members.{in_append_left, in_append_right, in_at, mapped}
 use Rattle.qs_pattern.specs.declared.variable.Var.{Var}
 use Rattle.qs_pattern.specs.declared.pattern.Head.{Head}
 use Rattle.qs_pattern.specs.declared.pattern.Head.TheVariants as head
@@ -24,11 +24,9 @@ use Rattle.qs_pattern.proofs.MatchLemmas.{matched_value}
 use Rattle.qs_pattern.proofs.Covering.{all_covered, condition_covered, conditions_variables}
 use Rattle.qs_graph.specs.Graphs.{Arc, QGraph, Leads, IsPath, arcs_at, trees_on}
 use Rattle.qs_graph.specs.Chains.{chain, with_chain}
-use Rattle.qs_graph.proofs.Lines.{member-slice_get}
 use Rattle.qs_firing.specs.Firings.{Firing, Fires, key, order}
 use Rattle.qs_firing.specs.Adding.{start_of, end_of, built, adds}
 use Rattle.qs_clean.specs.Renaming.{IsRenaming, renamed_tree, renamed_head, renamed_patterns, renamed_condition, renamed_conditions, renamed_rule, renamed_arc, renamed_graph, renamed_value, renamed_pair, renamed_substitution, renamed_firing}
-use Rattle.qs_clean.proofs.ArcLists.{in_map}
 use Rattle.qs_clean.proofs.RenamedInstances.{inst_renamed, holds_renamed}
 
 -- two ways to take a list through two functions
@@ -144,7 +142,7 @@ module _ (f : ℕ → ℕ) where
   match_renamed : (side : Patterns) (ts : List Tree) (s : Substitution) → IsCovered s side → IsMatch side ts s → IsMatch (renamed_patterns f side) (map (renamed_tree f) ts) (renamed_substitution f s)
   match_renamed side ts s c m = record {
     variables = variables_of_renamed s ∙ m.variables ∙ ap firsts (sym (variables_renamed side));
-    classes = λ p i. let (q, j, e) = in_map (renamed_pair f) s p i in subst IsOfClass (sym e) (class_renamed q.0 q.1 (m.classes q j));
+    classes = λ p i. let (q, j, e) = mapped (renamed_pair f) s p i in subst IsOfClass (sym e) (class_renamed q.0 q.1 (m.classes q j));
     instance = inst_renamed f s side c ∙ ap (map (renamed_tree f)) m.instance;
   }
 
@@ -229,7 +227,7 @@ module _ (f : ℕ → ℕ) where
 -- what fires builds the same and fires, under the other numbers
 module _ (f : ℕ → ℕ) (R : List Rule) (bound : (rule : Rule) → rule ∈ R → IsBound rule) (arcs : List Arc) (x : Firing) (fires : Fires R arcs x) where
   abbrev is_bound : IsBound fires.rule
-  is_bound = bound fires.rule (member-slice_get R x.rule fires.rule fires.is_rule)
+  is_bound = bound fires.rule (in_at R x.rule fires.rule fires.is_rule)
 
   is_rule : slice_get (map (renamed_rule f) R) x.rule ≡ Some (renamed_rule f fires.rule)
   is_rule = slice_get-map (renamed_rule f) R x.rule ∙ ap (option_map (renamed_rule f)) fires.is_rule

@@ -2,14 +2,13 @@
 use Rattle.std.proofs.Common.{◌≡◌, ℕ, zero, suc, ◌<◌, List, [], ◌∷◌, ◌++◌, length, map, refl, sym, ◌∙◌, ap, subst, inl, inr, ⊎_elim}
 use Rattle.std.proofs.lemmas.List.{map-append, length-map}
 use Rattle.qs_tree.specs.Lists.{◌∈◌, Ascends}
-use Rattle.qs_tree.proofs.Members.{from_map}
+use Rattle.qs_tree.proofs.Members.{from_map, mapped, in_map}
 use Rattle.qs_pattern.specs.Rules.{Rule}
 use Rattle.qs_graph.specs.Graphs.{Arc, QGraph}
 use Rattle.qs_firing.specs.Firings.{Firing, Fires, Before}
 use Rattle.qs_firing.specs.Adding.{built}
 use Rattle.qs_canon.specs.Rounds.{Round, Done, Stage, firings, after, after_one, Rounds, Closes, Needs}
 use Rattle.qs_clean.specs.Renaming.{IsRenaming, renamed_tree, renamed_rule, renamed_arc, renamed_graph, renamed_firing, renamed_done, renamed_stage}
-use Rattle.qs_clean.proofs.ArcLists.{in_map, to_map}
 use Rattle.qs_clean.proofs.RenamingUndone.{rules_undone, arcs_undone, firing_undone}
 use Rattle.qs_clean.proofs.RenamedInstances.{from_map_undone}
 use Rattle.qs_clean.proofs.RenamedFirings.{map_past, IsBound, bound_renamed, order_renamed, adds_renamed, built_renamed, fires_renamed}
@@ -24,7 +23,7 @@ module _ (f : ℕ → ℕ) where
   ascends_renamed : (F : List Firing) → Ascends Before F → Ascends Before (map (renamed_firing f) F)
   ascends_renamed [] a = tt
   ascends_renamed (x ∷ F) a = (
-    (λ y i. let (z, j, e) = in_map (renamed_firing f) F y i in subst (Before (renamed_firing f x)) (sym e) (order_renamed f x z ∙ a.0 z j)),
+    (λ y i. let (z, j, e) = mapped (renamed_firing f) F y i in subst (Before (renamed_firing f x)) (sym e) (order_renamed f x z ∙ a.0 z j)),
     ascends_renamed F a.1,
   )
 
@@ -58,14 +57,14 @@ module _ (f g : ℕ → ℕ) (is : IsRenaming f g) (R : List Rule) (bound : (rul
       (fires_renamed g others (from_map (renamed_rule f) R IsBound (λ rule i. bound_renamed f rule (bound rule i))) (map (renamed_arc f) arcs) y fires f (inverse f g is))
 
   in_renamed : (y : Firing) (xs : List Firing) → renamed_firing g y ∈ xs → y ∈ map (renamed_firing f) xs
-  in_renamed y xs i = subst (λ z. z ∈ map (renamed_firing f) xs) (firing_undone g f is.forth y) (to_map (renamed_firing f) xs (renamed_firing g y) i)
+  in_renamed y xs i = subst (λ z. z ∈ map (renamed_firing f) xs) (firing_undone g f is.forth y) (in_map (renamed_firing f) xs (renamed_firing g y) i)
 
   pub round_renamed : (G : QGraph) (done F : List Firing) → Round R G done F → Round others (renamed_graph f G) (map (renamed_firing f) done) (map (renamed_firing f) F)
   round_renamed G done F r = record {
     ascends = ascends_renamed f F r.ascends;
     fires = from_map (renamed_firing f) F (Fires others (map (renamed_arc f) G.arcs)) (λ x i. fires_renamed f R bound G.arcs x (r.fires x i) g is);
     new = λ y i k.
-        let (x, j, e) = in_map (renamed_firing f) F y i in
+        let (x, j, e) = mapped (renamed_firing f) F y i in
         r.new x j (from_map_undone (renamed_firing f) (renamed_firing g) (firing_undone f g is.back) done x (subst (λ z. z ∈ map (renamed_firing f) done) e k));
     all = λ y h. ⊎_elim (λ i. inl (in_renamed y done i)) (λ i. inr (in_renamed y F i)) (r.all (renamed_firing g y) (fires_back G.arcs y h));
   }

@@ -13,7 +13,7 @@ use Rattle.qs_pattern.specs.Rules.{Rule, IsAccepted}
 use Rattle.qs_pattern.proofs.Reading.{tree_of_var}
 use Rattle.qs_pattern.proofs.Covering.{right_values}
 use Rattle.qs_graph.specs.Graphs.{Arc, trees_on}
-use Rattle.qs_graph.proofs.Lines.{member-slice_get}
+use Rattle.qs_tree.proofs.Members.{in_at}
 use Rattle.qs_firing.specs.Firings.{Firing, Fires}
 use Rattle.qs_firing.specs.Adding.{built}
 
@@ -31,7 +31,7 @@ built_some R accepted arcs f fires = subst (λ ts. 0 < length ts) (sym is) some
     is = ap (λ o. unwrap_or (option_map (λ (rule : Rule). inst f.values rule.right) o) []) fires.is_rule
 
     ok : IsAccepted fires.rule
-    ok = accepted fires.rule (member-slice_get R f.rule fires.rule fires.is_rule)
+    ok = accepted fires.rule (in_at R f.rule fires.rule fires.is_rule)
 
     tree : (v : Var) → v ∈ variables_in fires.rule.right → IsTreeVar v → 0 < length (tree_in (value_of f.values v))
     tree v i t =
@@ -62,5 +62,5 @@ built_few R accepted f = by (slice_get R f.rule) refl
     by : (o : Option Rule) → slice_get R f.rule ≡ o → length (unwrap_or (option_map (λ (rule : Rule). inst f.values rule.right) o) []) ≤ 16
     by None e = omega arith
     by (Some rule) e =
-        let side = (accepted rule (member-slice_get R f.rule rule e)).right in
+        let side = (accepted rule (in_at R f.rule rule e)).right in
         omega (arith, few_trees f.values rule.right side.no_forest_at_top, side.at_most)

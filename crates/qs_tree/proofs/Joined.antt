@@ -6,7 +6,7 @@ use Rattle.qs_tree.specs.Trees.{Forest, no_tree, first_tree, Tree, trees, size, 
 use Rattle.qs_tree.specs.Cells.{cells_of, cells_of_tree, forest_in, trees_of, tree_of, IsTree, IsForest, forest_in-cells_of, tree_of-cells_of_tree}
 use Rattle.qs_tree.proofs.Runs.{tree_cells, forest_cells, length-cells_of}
 
-cells_of-join : (g h : Forest) → cells_of (join g h) ≡ cells_of g ++ cells_of h
+pub cells_of-join : (g h : Forest) → cells_of (join g h) ≡ cells_of g ++ cells_of h
 cells_of-join no_tree h = refl
 cells_of-join (first_tree l k r) h =
     ap (λ xs. record { label = l; extent = suc (size k) } ∷ (cells_of k ++ xs)) (cells_of-join r h)

@@ -25,6 +25,12 @@ in_map f [] x i = absurd i
 in_map f (y ∷ xs) x (inl e) = inl (ap f e)
 in_map f (y ∷ xs) x (inr i) = inr (in_map f xs x i)
 
+-- a member of map f xs is f of a member of xs
+pub mapped : {X Y : Type 0} (f : X → Y) (xs : List X) (y : Y) → y ∈ map f xs → (x : X) × (x ∈ xs) × (y ≡ f x)
+mapped f [] y i = absurd i
+mapped f (x ∷ xs) y (inl e) = (x, inl refl, e)
+mapped f (x ∷ xs) y (inr i) = let (z, j, e) = mapped f xs y i in (z, inr j, e)
+
 -- what holds of each f x holds of the members of map f xs
 pub from_map : {X Y : Type 0} (f : X → Y) (xs : List X) (P : Y → Type 0) → ((x : X) → x ∈ xs → P (f x)) → (y : Y) → y ∈ map f xs → P y
 from_map f [] P h y i = absurd i

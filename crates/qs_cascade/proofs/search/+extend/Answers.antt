@@ -13,7 +13,7 @@ use Rattle.qs_cascade.proofs.Places.{at_place}
 use Rattle.qs_cascade.proofs.Findings.{finds_same, finds_none, finds_stop, true_is_not_false}
 use Rattle.qs_cascade.proofs.Following.{left_by, leaving-ascends, goes_on, begins_of, one_more, one_refused, path_and_arc}
 use Rattle.qs_cascade.proofs.Refusing.{refused}
-use Rattle.qs_graph.proofs.Numbers.{in_at}
+use Rattle.qs_tree.proofs.Members.{in_get_or}
 use Rattle.qs_pattern.proofs.PatternLemmas.{count-patterns}
 use Rattle.qs_cascade.proofs.Extending.{less_in_front, new_with, has_path, begins, never_old}
 use Rattle.qs_cascade.proofs.search.+extend.Goals as goal
@@ -42,7 +42,7 @@ returns-else-new t c =
 pub edge-edge-requires : goal.edge-edge-requires
 edge-edge-requires t c =
     let ks = c.leaving-arc-items.result.now in
-    let here : get_or ks c.loop-arc.arc-index 0 ∈ ks = in_at ks c.loop-arc.arc-index c.loop-arc-test.true in
+    let here : get_or ks c.loop-arc.arc-index 0 ∈ ks = in_get_or ks c.loop-arc.arc-index 0 c.loop-arc-test.true in
     let (arc, at, from) = left_by c.args.search.now.arcs.now.arcs c.args.at (get_or ks c.loop-arc.arc-index 0) (subst (λ (js : List ℕ). get_or ks c.loop-arc.arc-index 0 ∈ js) c.leaving-arc-items.ensures here) in
     slice_get_within c.args.search.now.arcs.now.arcs (get_or ks c.loop-arc.arc-index 0) arc at
 
@@ -71,7 +71,7 @@ extend-requires t c =
     let longer : c.deref-in-loop-arc.result.now ≡ c.args.path.now ++ k ∷ [] = c.deref-in-loop-arc.ensures.value ∙ c.in_ok-longer.ensures in
     let more = ap (λ (js : List ℕ). length js) longer in
     let (a, p) = c.requires.path in
-    let here : k ∈ leaving s.arcs.now.arcs c.args.at = subst (λ (js : List ℕ). k ∈ js) c.leaving-arc-items.ensures (in_at ks c.loop-arc.arc-index c.loop-arc-test.true) in
+    let here : k ∈ leaving s.arcs.now.arcs c.args.at = subst (λ (js : List ℕ). k ∈ js) c.leaving-arc-items.ensures (in_get_or ks c.loop-arc.arc-index 0 c.loop-arc-test.true) in
     let (arc, at, from) = left_by s.arcs.now.arcs c.args.at k here in
     let there = c.edge-edge.ensures.at in
     let same : arc ≡ c.edge-edge.result.now = cc in
