@@ -124,7 +124,7 @@ close {t} {ts} of next = record {
 }
 
 -- each word between two lists compares them
-comparing_compares : (word : Comparing) → compares (the_word (comparing_word word)) ≡ true
+pub comparing_compares : (word : Comparing) → compares (the_word (comparing_word word)) ≡ true
 comparing_compares within = refl
 comparing_compares outside = refl
 
@@ -135,7 +135,11 @@ comparison {t} {ts} s is of next = record {
       one_token t ts s before of (cond-true (compares s) (ends before) (cond (compares before) (starts s) true) is ∙ end) (next.chain s);
 }
 
--- no other token stands behind a word that compares
+-- before it nothing else stands
+pub end_before : (before s : Sort) → compares s ≡ true → beside before s ≡ true → ends before ≡ true
+end_before before s is e = sym (cond-true (compares s) (ends before) (cond (compares before) (starts s) true) is) ∙ e
+
+-- and behind it stands nothing with which no list may begin
 pub not_behind : (before s : Sort) → compares s ≡ false → starts s ≡ false → compares before ≡ true → beside before s ≡ true → ⊥
 not_behind before s plain none is e =
     let no : false ≡ true =

@@ -6,7 +6,9 @@ use Rattle.std.specs.List.{flat_map}
 use Rattle.qs_lex.specs.Characters.{ends_line, Each}
 use Rattle.qs_lex.specs.Grammar.{Sort, a_label_variable, a_tree_variable, a_forest_variable, the_word, opening, closing, comma, plus, slash, equals, stop}
 use Rattle.qs_lex.specs.declared.token.Kind.TheVariants.{Opening, Closing, Comma, Plus, Slash, Equals, Stop, Word as a_word}
-use Rattle.qs_lex.specs.declared.token.Word.TheVariants.{Dans, Hors, Et, Ou, Non}
+use Rattle.qs_lex.specs.declared.token.Word.{Word}
+use Rattle.qs_lex.specs.declared.token.Word.TheVariants.{Non}
+use Rattle.qs_lex.specs.Spelling.{between_dashes, name_of as word_name}
 use Rattle.qs_tree.specs.declared.cell.Label.{Label}
 use Rattle.qs_tree.specs.Text.{name_of, label_text}
 use Rattle.qs_pattern.specs.declared.variable.Var.{Var}
@@ -14,10 +16,10 @@ use Rattle.qs_pattern.specs.declared.pattern.Head.{Head}
 use Rattle.qs_pattern.specs.declared.pattern.Head.TheVariants as head
 use Rattle.qs_pattern.specs.Variables.{IsTreeVar, IsForestVar}
 use Rattle.qs_pattern.specs.Patterns.{Patterns, no_pattern, node_first, tree_var_first, forest_var_first, count, IsHeadInClass, AreInClass}
-use Rattle.qs_pattern.specs.Conditions.{Comparing, within, outside, all, any, Condition, Conditions, compared, negated, combined, no_condition, condition_first, EachListOfAll, IsConditionInClass}
+use Rattle.qs_pattern.specs.Conditions.{Comparing, Joining, all, any, Condition, Conditions, compared, negated, combined, no_condition, condition_first, EachListOfAll, IsConditionInClass}
 use Rattle.qs_pattern.specs.Rules.{UnmarkedRule, IsInClassIfGiven}
-use Rattle.qs_ruletext.specs.Reading.{IsVariableOf}
-use Rattle.qs_ruletext.specs.Texts.{joined, in_parentheses, variable_text, head_text, kids_text, pattern_texts, list_text, side_text, tightness, member_text, condition_text, member_texts, condition_part}
+use Rattle.qs_ruletext.specs.Reading.{IsVariableOf, comparing_word}
+use Rattle.qs_ruletext.specs.Texts.{joined, in_parentheses, variable_text, head_text, kids_text, pattern_texts, list_text, side_text, joining_tightness, tightness, spaced_word, joining_word, member_text, condition_text, member_texts, condition_part}
 use Rattle.qs_ruletext.specs.Written.{HasFullLists, HaveFullLists, written}
 use Rattle.qs_ruletext.proofs.ReadBack.{token, space, spaced}
 use Rattle.qs_ruletext.proofs.HeadsReadBack.{Closes, label_variable_goes, tree_variable_goes, forest_variable_goes}
@@ -32,6 +34,11 @@ HasFullListsIfGiven (Some c) = HasFullLists c
 -- a label with no end of a line is written alike under the other names
 abbrev pub KeepsLines : List (List ℕ) → List (List ℕ) → Type 0
 KeepsLines names others = (l : Label) → Each (λ b. not (ends_line b)) (name_of names l) → name_of names l ≡ name_of others l
+
+-- a word between members compares no lists
+joins : (word : Joining) → compares (the_word (joining_word word)) ≡ false
+joins all = refl
+joins any = refl
 
 module _ (text : List ℕ) where
   -- what stands between two texts can be passed, and lets what is before it end
@@ -58,6 +65,12 @@ module _ (text : List ℕ) where
     closes = pluses_close;
     passed = λ before left at. (plus, (pass_kind text Plus (codes "+") before (codes " + ") left (spaced text Plus (codes "+") left refl tt refl) at).1);
   }
+
+  -- a word with a space on both sides
+  word_passed : (word : Word) (before : Sort) (left : List ℕ) → IsAt text before (spaced_word word ++ left) → (beside before (the_word word) ≡ true) × IsAt text (the_word word) left
+  word_passed word before left at =
+      let bytes : List ℕ = between_dashes (word_name word) in
+      pass_kind text (a_word word) bytes before (spaced_word word) left (spaced text (a_word word) bytes left refl tt refl) at
 
   -- behind a word that compares lists, this can't stand
   abbrev pub Refuses : List ℕ → Type 0
@@ -188,38 +201,31 @@ module _ (text : List ℕ) where
         by true = in_group (condition_text names c) (condition_text others c) shows
         by false = shows
 
-    -- a word with lists before and behind it
-    both_full : (s : Sort) (word : List ℕ) (a b : Patterns) → AreInClass a → AreInClass b → compares s ≡ true → ((left : List ℕ) → Closes (word ++ left))
-        → ((before : Sort) (left : List ℕ) → IsAt text before (word ++ left) → (ends before ≡ true) × IsAt text s left)
-        → ShowsFull ((1 ≤ count a) × (1 ≤ count b)) (list_text names a ++ (word ++ list_text names b)) (list_text others a ++ (word ++ list_text others b))
-    both_full s word a b class_a class_b is word_closes pass = λ before left no_end closes refuses at.
+    -- two lists with a word between them
+    compared_shows : (word : Comparing) (a b : Patterns) → IsConditionInClass (compared word a b) → ConditionShows (compared word a b)
+    compared_shows word a b class = λ before left no_end closes refuses at.
         let behind : List ℕ = list_text names b ++ left in
-        let whole : IsAt text before (list_text names a ++ (word ++ behind)) =
-        subst (IsAt text before) (append_assoc (list_text names a) (word ++ list_text names b) left ∙ ap (λ bs. list_text names a ++ bs) (append_assoc word (list_text names b) left)) at in
-        let x = (patterns_passed (codes ",") commas a class_a).0 before (word ++ behind) (word_closes behind) whole in
-        let y = pass x.1.0 behind x.1.1 in
-        let z = (patterns_passed (codes ",") commas b class_b).0 s left closes y.1 in
-        ((some_before a before behind no_end whole, some_behind b left refuses y.1), (λ i. joined (codes ",") (x.0 i) ++ (word ++ joined (codes ",") (z.0 i))), z.1)
+        let between : List ℕ = spaced_word (comparing_word word) in
+        let whole : IsAt text before (list_text names a ++ (between ++ behind)) =
+        subst (IsAt text before) (append_assoc (list_text names a) (between ++ list_text names b) left ∙ ap (λ bs. list_text names a ++ bs) (append_assoc between (list_text names b) left)) at in
+        let x = (patterns_passed (codes ",") commas a class.0).0 before (between ++ behind) refl whole in
+        let y = word_passed (comparing_word word) x.1.0 behind x.1.1 in
+        let z = (patterns_passed (codes ",") commas b class.1).0 (the_word (comparing_word word)) left closes y.1 in
+        ((some_before a before behind no_end whole, some_behind b left refuses y.1), (λ i. joined (codes ",") (x.0 i) ++ (between ++ joined (codes ",") (z.0 i))), z.1)
       where
-        some_before : (ps : Patterns) (before : Sort) (behind : List ℕ) → ends before ≡ false → IsAt text before (list_text names ps ++ (word ++ behind)) → 1 ≤ count ps
-        some_before no_pattern before behind no_end at = absurd (let no : true ≡ false = sym (pass before behind at).0 ∙ no_end in cc)
+        some_before : (ps : Patterns) (before : Sort) (behind : List ℕ) → ends before ≡ false → IsAt text before (list_text names ps ++ (spaced_word (comparing_word word) ++ behind)) → 1 ≤ count ps
+        some_before no_pattern before behind no_end at =
+            let end : ends before ≡ true = end_before before (the_word (comparing_word word)) (comparing_compares word) (word_passed (comparing_word word) before behind at).0 in
+            absurd (let no : true ≡ false = sym end ∙ no_end in cc)
         some_before (node_first h kids ps) before behind no_end at = omega arith
         some_before (tree_var_first v ps) before behind no_end at = omega arith
         some_before (forest_var_first v ps) before behind no_end at = omega arith
 
-        some_behind : (ps : Patterns) (left : List ℕ) → Refuses left → IsAt text s (list_text names ps ++ left) → 1 ≤ count ps
-        some_behind no_pattern left refuses at = absurd (refuses s is at)
+        some_behind : (ps : Patterns) (left : List ℕ) → Refuses left → IsAt text (the_word (comparing_word word)) (list_text names ps ++ left) → 1 ≤ count ps
+        some_behind no_pattern left refuses at = absurd (refuses (the_word (comparing_word word)) (comparing_compares word) at)
         some_behind (node_first h kids ps) left refuses at = omega arith
         some_behind (tree_var_first v ps) left refuses at = omega arith
         some_behind (forest_var_first v ps) left refuses at = omega arith
-
-    compared_shows : (word : Comparing) (a b : Patterns) → IsConditionInClass (compared word a b) → ConditionShows (compared word a b)
-    compared_shows within a b class =
-        both_full (the_word Dans) (codes " -DANS- ") a b class.0 class.1 refl (λ left. refl)
-        (λ before left at. pass_kind text (a_word Dans) (codes "-DANS-") before (codes " -DANS- ") left (spaced text (a_word Dans) (codes "-DANS-") left refl tt refl) at)
-    compared_shows outside a b class =
-        both_full (the_word Hors) (codes " -HORS- ") a b class.0 class.1 refl (λ left. refl)
-        (λ before left at. pass_kind text (a_word Hors) (codes "-HORS-") before (codes " -HORS- ") left (spaced text (a_word Hors) (codes "-HORS-") left refl tt refl) at)
 
     negated_shows : (c : Condition) → ConditionShows c → ConditionShows (negated c)
     negated_shows c shows = λ before left no_end closes refuses at.
@@ -230,38 +236,15 @@ module _ (text : List ℕ) where
         let z = member_shows 3 c shows (the_word Non) left refl closes refuses y in
         (z.0, ap (λ bs. codes "-NON- " ++ bs) z.1, z.2)
 
-    -- a word between members
-    record IsJoint (outer : ℕ) (word : List ℕ) (s : Sort) : Type 0 where
-      pub no_end : ends s ≡ false
-      pub closes : (left : List ℕ) → Closes (word ++ left)
-      pub refuses : (left : List ℕ) → Refuses (word ++ left)
-      pub passed : (before : Sort) (left : List ℕ) → IsAt text before (word ++ left) → IsAt text s left
+    module _ (word : Joining) where
+      abbrev outer : ℕ
+      outer = joining_tightness word
 
-    et : IsJoint 2 (codes " -ET- ") (the_word Et)
-    et = record {
-      no_end = refl;
-      closes = λ left. refl;
-      refuses = λ left before is at. not_behind before (the_word Et) refl refl is (passed before left at).0;
-      passed = λ before left at. (passed before left at).1;
-    }
-      where
-        passed : (before : Sort) (left : List ℕ) → IsAt text before (codes " -ET- " ++ left) → (beside before (the_word Et) ≡ true) × IsAt text (the_word Et) left
-        passed before left at = pass_kind text (a_word Et) (codes "-ET-") before (codes " -ET- ") left (spaced text (a_word Et) (codes "-ET-") left refl tt refl) at
+      abbrev between : List ℕ
+      between = spaced_word (joining_word word)
 
-    ou : IsJoint 1 (codes " -OU- ") (the_word Ou)
-    ou = record {
-      no_end = refl;
-      closes = λ left. refl;
-      refuses = λ left before is at. not_behind before (the_word Ou) refl refl is (passed before left at).0;
-      passed = λ before left at. (passed before left at).1;
-    }
-      where
-        passed : (before : Sort) (left : List ℕ) → IsAt text before (codes " -OU- " ++ left) → (beside before (the_word Ou) ≡ true) × IsAt text (the_word Ou) left
-        passed before left at = pass_kind text (a_word Ou) (codes "-OU-") before (codes " -OU- ") left (spaced text (a_word Ou) (codes "-OU-") left refl tt refl) at
-
-    module _ (outer : ℕ) (word : List ℕ) (s : Sort) (is : IsJoint outer word s) where
       abbrev behind_word : Conditions → List ℕ
-      behind_word cs = flat_map (λ t. word ++ t) (member_texts names outer cs)
+      behind_word cs = flat_map (λ t. between ++ t) (member_texts names outer cs)
 
       -- several members, behind the word
       abbrev MoreShow : Conditions → Type 0
@@ -270,15 +253,15 @@ module _ (text : List ℕ) where
 
       more_close : (cs : Conditions) (left : List ℕ) → Closes left → Closes (behind_word cs ++ left)
       more_close no_condition left closes = closes
-      more_close (condition_first c cs) left closes =
-          let member : List ℕ = member_text outer c (condition_text names c) in
-          subst Closes (sym (append_assoc (word ++ member) (behind_word cs) left ∙ append_assoc word member (behind_word cs ++ left))) (is.closes (member ++ (behind_word cs ++ left)))
+      more_close (condition_first c cs) left closes = refl
 
       more_refuse : (cs : Conditions) (left : List ℕ) → Refuses left → Refuses (behind_word cs ++ left)
       more_refuse no_condition left refuses = refuses
-      more_refuse (condition_first c cs) left refuses =
+      more_refuse (condition_first c cs) left refuses = λ before is at.
           let member : List ℕ = member_text outer c (condition_text names c) in
-          subst Refuses (sym (append_assoc (word ++ member) (behind_word cs) left ∙ append_assoc word member (behind_word cs ++ left))) (is.refuses (member ++ (behind_word cs ++ left)))
+          let passed = word_passed (joining_word word) before (member ++ (behind_word cs ++ left))
+          (subst (IsAt text before) (append_assoc (between ++ member) (behind_word cs) left ∙ append_assoc between member (behind_word cs ++ left)) at) in
+          not_behind before (the_word (joining_word word)) (joins word) refl is passed.0
 
       -- the first member, and those behind it
       first_shows : (c : Condition) (cs : Conditions) → ConditionShows c → MoreShow cs
@@ -294,28 +277,27 @@ module _ (text : List ℕ) where
       more_shows : (c : Condition) (cs : Conditions) → ConditionShows c → MoreShow cs → MoreShow (condition_first c cs)
       more_shows c cs shows more = λ before left closes refuses at.
           let member : List ℕ = member_text outer c (condition_text names c) in
-          let x = is.passed before ((member ++ behind_word cs) ++ left)
-          (subst (IsAt text before) (append_assoc (word ++ member) (behind_word cs) left ∙ append_assoc word member (behind_word cs ++ left) ∙ ap (λ bs. word ++ bs) (sym (append_assoc member (behind_word cs) left))) at) in
-          first_shows c cs shows more s left is.no_end closes refuses x
+          let x = word_passed (joining_word word) before ((member ++ behind_word cs) ++ left)
+          (subst (IsAt text before) (append_assoc (between ++ member) (behind_word cs) left ∙ append_assoc between member (behind_word cs ++ left) ∙ ap (λ bs. between ++ bs) (sym (append_assoc member (behind_word cs) left))) at) in
+          first_shows c cs shows more (the_word (joining_word word)) left refl closes refuses x.1
 
       -- and all of them, whatever they join
       members_show : (c : Condition) (cs : Conditions) → ConditionShows c → MoreShow cs
-          → ShowsFull (HaveFullLists (condition_first c cs)) (joined word (member_texts names outer (condition_first c cs))) (joined word (member_texts others outer (condition_first c cs)))
+          → ShowsFull (HaveFullLists (condition_first c cs)) (joined between (member_texts names outer (condition_first c cs))) (joined between (member_texts others outer (condition_first c cs)))
       members_show c cs shows more = λ before left no_end closes refuses at.
           let x = first_shows c cs shows more before left no_end closes refuses at in
-          (x.0, ap (joined word) x.1, x.2)
+          (x.0, ap (joined between) x.1, x.2)
 
     mutual
       condition_shows : (c : Condition) → IsConditionInClass c → ConditionShows c
       condition_shows (compared word a b) class = compared_shows word a b class
       condition_shows (negated c) class = negated_shows c (condition_shows c class)
       condition_shows (combined word no_condition) class = λ before left no_end closes refuses at. (tt, refl, (before, at))
-      condition_shows (combined all (condition_first c cs)) class = members_show 2 (codes " -ET- ") (the_word Et) et c cs (condition_shows c class.0) (more_show 2 (codes " -ET- ") (the_word Et) et cs class.1)
-      condition_shows (combined any (condition_first c cs)) class = members_show 1 (codes " -OU- ") (the_word Ou) ou c cs (condition_shows c class.0) (more_show 1 (codes " -OU- ") (the_word Ou) ou cs class.1)
+      condition_shows (combined word (condition_first c cs)) class = members_show word c cs (condition_shows c class.0) (more_show word cs class.1)
 
-      more_show : (outer : ℕ) (word : List ℕ) (s : Sort) (is : IsJoint outer word s) (cs : Conditions) → EachListOfAll AreInClass cs → MoreShow outer word s is cs
-      more_show outer word s is no_condition class = λ before left closes refuses at. (tt, refl, (before, at))
-      more_show outer word s is (condition_first c cs) class = more_shows outer word s is c cs (condition_shows c class.0) (more_show outer word s is cs class.1)
+      more_show : (word : Joining) (cs : Conditions) → EachListOfAll AreInClass cs → MoreShow word cs
+      more_show word no_condition class = λ before left closes refuses at. (tt, refl, (before, at))
+      more_show word (condition_first c cs) class = more_shows word c cs (condition_shows c class.0) (more_show word cs class.1)
 
     -- ---- rules
 
