@@ -16,7 +16,7 @@ pub struct Placed {
 
 impl Model for Placed {
     ghost use Rattle.qs_canon.specs.Rounds.{Done};
-    ghost use Rattle.qs_canon.specs.Codes.{done_code};
+    ghost use Rattle.qs_canon.specs.working.Codes.{done_code};
 
     ghost Value = { Done };
 
@@ -39,7 +39,7 @@ pub struct Closure {
 
 impl Model for Closure {
     ghost use Rattle.qs_canon.specs.Closures.{ClosureOf};
-    ghost use Rattle.qs_canon.specs.Codes.{closure_code};
+    ghost use Rattle.qs_canon.specs.working.Codes.{closure_code};
 
     ghost Value = { ClosureOf };
 

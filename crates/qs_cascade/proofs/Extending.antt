@@ -6,7 +6,7 @@ use Rattle.qs_tree.proofs.Members.{in_append_left, in_append_right, from_append,
 use Rattle.qs_pattern.specs.Rules.{Rule}
 use Rattle.qs_graph.specs.Graphs.{Arc}
 use Rattle.qs_firing.specs.Firings.{Firing}
-use Rattle.qs_cascade.specs.Finding.{IsNewPath, Begins, HasPath}
+use Rattle.qs_cascade.specs.working.Finding.{IsNewPath, Begins, HasPath}
 
 -- in an ascending list those in front of a place are less than what is there
 pub less_in_front : (ks : List ℕ) → Ascends ◌<◌ ks → (i : ℕ) → i < length ks → (j : ℕ) → j ∈ take i ks → j < get_or ks i 0

@@ -11,7 +11,7 @@ use Rattle.qs_tree.proofs.Members.{in_append_left, in_append_right, from_append}
 use Rattle.qs_match.proofs.Listed.{Ascends-append}
 use Rattle.qs_firing.specs.Firings.{Firing, Before}
 use Rattle.qs_firing.proofs.Orders.{Before-asym}
-use Rattle.qs_cascade.specs.Finding.{Finds}
+use Rattle.qs_cascade.specs.working.Finding.{Finds}
 
 pub true_is_not_false : true ≡ false → ⊥
 true_is_not_false e = absurd cc

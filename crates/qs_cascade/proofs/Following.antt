@@ -8,8 +8,8 @@ use Rattle.qs_pattern.specs.Rules.{Rule}
 use Rattle.qs_tree.proofs.Members.{in_append_left, in_append_right, from_append}
 use Rattle.qs_graph.specs.Graphs.{Arc, Leads, IsPath}
 use Rattle.qs_firing.specs.Firings.{Firing, Before}
-use Rattle.qs_cascade.specs.Leaving.{leaving_from, leaving}
-use Rattle.qs_cascade.specs.Finding.{Begins, GoesOn, Finds}
+use Rattle.qs_cascade.specs.working.Leaving.{leaving_from, leaving}
+use Rattle.qs_cascade.specs.working.Finding.{Begins, GoesOn, Finds}
 use Rattle.qs_cascade.proofs.Findings.{finds_both, finds_none, less_behind, before_by_path}
 
 -- ---- the arcs that leave a node

@@ -11,7 +11,7 @@ use Rattle.qs_pattern.specs.Rules.{Rule}
 use Rattle.qs_match.specs.Order.{LengthsBefore}
 use Rattle.qs_graph.specs.Graphs.{Arc, Leads, IsPath, arcs_at, trees_on}
 use Rattle.qs_firing.specs.Firings.{Firing, Before}
-use Rattle.qs_cascade.specs.Finding.{AreThose, firings_of, HasPath, Finds}
+use Rattle.qs_cascade.specs.working.Finding.{AreThose, firings_of, HasPath, Finds}
 use Rattle.qs_cascade.proofs.Findings.{before_by_lengths}
 use Rattle.qs_cascade.proofs.Choosing.{from_those, to_those, those-ascend}
 

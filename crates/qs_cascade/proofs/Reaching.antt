@@ -16,7 +16,7 @@ use Rattle.qs_canon.specs.Rounds.{Round, Rounds, Done, Stage, firings, after, af
 use Rattle.qs_canon.proofs.Rounds.{length-after}
 use Rattle.qs_canon.proofs.Existence.{has_rounds}
 use Rattle.qs_clean.proofs.Closures.{leads_within}
-use Rattle.qs_cascade.specs.Finding.{IsNewPath, NewFiring, Finds}
+use Rattle.qs_cascade.specs.working.Finding.{IsNewPath, NewFiring, Finds}
 use Rattle.qs_cascade.proofs.Findings.{fewer}
 
 -- S is what n rounds reach, and its done firings are those over its first `old` arcs

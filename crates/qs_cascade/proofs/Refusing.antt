@@ -7,7 +7,8 @@ use Rattle.qs_tree.specs.Trees.{Tree as LabelledTree, kids, node}
 use Rattle.qs_pattern.specs.declared.variable.Var.{Var}
 use Rattle.qs_pattern.specs.declared.pattern.Head.{Head}
 use Rattle.qs_pattern.specs.declared.pattern.Pattern.{Pattern, Node, Node', Tree, Forest}
-use Rattle.qs_pattern.specs.Patterns.{Patterns, pattern_before, patterns, one_pattern, variables_in, head_variables, AreInClass, NoForestAtTop}
+use Rattle.qs_pattern.specs.Patterns.{Patterns, pattern_before, patterns, variables_in, head_variables, AreInClass, NoForestAtTop}
+use Rattle.qs_pattern.specs.working.Patterns.{one_pattern}
 use Rattle.qs_pattern.specs.Substitutions.{Substitution}
 use Rattle.qs_pattern.specs.Instances.{inst, label_of, tree_in}
 use Rattle.qs_pattern.proofs.InstanceLemmas.{inst-Node, inst-pattern_before, single_parts}
@@ -18,7 +19,7 @@ use Rattle.qs_tree.proofs.Members.{in_append_left, in_append_right, from_append}
 use Rattle.qs_pattern.specs.Rules.{Rule}
 use Rattle.qs_graph.specs.Graphs.{Arc, Leads, arcs_at, trees_on}
 use Rattle.qs_firing.specs.Firings.{Firing}
-use Rattle.qs_cascade.specs.Finding.{Begins}
+use Rattle.qs_cascade.specs.working.Finding.{Begins}
 
 -- a node without patterns below stands for a tree without subtrees
 pub no_kids : (s : Substitution) (h : Head) (ks : Vec Pattern Global) (p : Pattern) (t : LabelledTree) → p ≡ Node h ks → length ks.items ≡ 0 → inst s (one_pattern p) ≡ t ∷ [] → kids t ≡ []

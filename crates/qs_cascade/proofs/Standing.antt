@@ -7,7 +7,7 @@ use Rattle.qs_graph.specs.Graphs.{Arc}
 use Rattle.qs_graph.proofs.Numbers.{in_at}
 use Rattle.qs_firing.specs.Adding.{least_arc}
 use Rattle.qs_firing.proofs.Merging.{arc, least_is, is_least}
-use Rattle.qs_cascade.specs.Leaving.{leaving}
+use Rattle.qs_cascade.specs.working.Leaving.{leaving}
 use Rattle.qs_cascade.proofs.Following.{leaves, left_by, leaving-ascends}
 
 -- the arc of this number doesn't end at b with the tree t

@@ -5,7 +5,7 @@ ghost use Rattle.qs_tree.specs.Cells.{tree_of};
 ghost use Rattle.qs_graph.specs.Graphs.{IsNode};
 ghost use Rattle.qs_graph.specs.Chains.{with_chain};
 ghost use Rattle.qs_firing.specs.Adding.{least_arc};
-ghost use Rattle.qs_cascade.specs.Leaving.{leaving};
+ghost use Rattle.qs_cascade.specs.working.Leaving.{leaving};
 
 use qs_canon::{Closure, Placed};
 use qs_graph::{Edge, Graph};
@@ -31,14 +31,14 @@ pub struct Arcs {
 
 impl Model for Arcs {
     ghost use Rattle.qs_graph.specs.Graphs.{QGraph};
-    ghost use Rattle.qs_graph.specs.Codes.{graph_code};
+    ghost use Rattle.qs_graph.specs.working.Codes.{graph_code};
 
     ghost Value = { QGraph };
 
     ghost coded = { graph_code };
 
     ghost use Rattle.std.specs.Prelude.{◌-◌, length};
-    ghost use Rattle.qs_cascade.specs.Leaving.{IsIndexed};
+    ghost use Rattle.qs_cascade.specs.working.Leaving.{IsIndexed};
 
     ghost view = { λ a. record { nodes = length a.leaving.items - 1; arcs = a.edges.items } };
 

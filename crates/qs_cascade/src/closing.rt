@@ -3,7 +3,7 @@
 ghost use Rattle.std.specs.Prelude.{◌≡◌, ◌<◌, ◌≤◌, ◌+◌, ◌-◌, ◌*◌, ◌^◌, length, IfOk};
 ghost use Rattle.qs_tree.specs.Lists.{◌∈◌};
 ghost use Rattle.qs_pattern.specs.Rules.{Rule as RuleOfPatterns, IsAccepted, all_unique};
-ghost use Rattle.qs_cascade.specs.Closing.{ClosesOrNeeds};
+ghost use Rattle.qs_cascade.specs.working.Closing.{ClosesOrNeeds};
 
 use crate::adding::do_round;
 use crate::arcs::Arcs;

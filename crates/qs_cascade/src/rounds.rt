@@ -1,7 +1,7 @@
 //! The rounds of a grammar, as they are defined: each takes all firings over the graph so far that aren't done.
 
 ghost use Rattle.std.specs.Prelude.{◌≡◌, ◌<◌, ◌≤◌, ◌+◌, ◌-◌, ◌*◌, ◌^◌, length, IfOk, OnOk, Option, Some, slice_get};
-ghost use Rattle.qs_cascade.specs.Finding.{FindsRound};
+ghost use Rattle.qs_cascade.specs.working.Finding.{FindsRound};
 
 use crate::arcs::Arcs;
 use crate::search::{Search, find_firings};

@@ -4,13 +4,14 @@ ghost use Rattle.std.specs.Prelude.{◌≡◌, ◌<◌, ◌≤◌, ◌+◌, ◌^
 ghost use Rattle.qs_tree.specs.Lists.{◌∈◌, Ascends};
 ghost use Rattle.qs_tree.specs.Trees.{Tree};
 ghost use Rattle.qs_tree.specs.Cells.{tree_of};
-ghost use Rattle.qs_pattern.specs.Patterns.{one_pattern, count};
+ghost use Rattle.qs_pattern.specs.Patterns.{count};
+ghost use Rattle.qs_pattern.specs.working.Patterns.{one_pattern};
 ghost use Rattle.qs_pattern.specs.Substitutions.{Substitution};
 ghost use Rattle.qs_pattern.specs.Instances.{inst, IsMatch};
 ghost use Rattle.qs_pattern.specs.Conditions.{HoldsIfGiven};
 ghost use Rattle.qs_match.specs.Order.{LengthsBefore};
 ghost use Rattle.qs_graph.specs.Graphs.{Leads, IsPath, IsNode, trees_on};
-ghost use Rattle.qs_cascade.specs.Finding.{Finds, AreThose, firings_of, HasPath, Begins, IsNewPath};
+ghost use Rattle.qs_cascade.specs.working.Finding.{Finds, AreThose, firings_of, HasPath, Begins, IsNewPath};
 
 use crate::arcs::Arcs;
 use qs_firing::Firing;

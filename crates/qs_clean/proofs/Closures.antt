@@ -10,8 +10,8 @@ use Rattle.qs_canon.specs.Rounds.{Stage, Done, firings}
 use Rattle.qs_canon.specs.Closures.{ClosureOf}
 use Rattle.qs_canon.proofs.Keeping.{Keeps, keeps_rounds, nothing_done}
 use Rattle.qs_clean.specs.declared.links.Link.{Link}
-use Rattle.qs_clean.specs.Links.{Reaches, turned}
-use Rattle.qs_clean.specs.Steps.{IsUsed, each_pair, free_link, keeps_mark, both, marked, AreMarks}
+use Rattle.qs_clean.specs.working.Links.{Reaches, turned}
+use Rattle.qs_clean.specs.working.Steps.{IsUsed, each_pair, free_link, keeps_mark, both, marked, AreMarks}
 use Rattle.qs_clean.specs.Cleaning.{IsClosureOfValid, IsDenoted}
 use Rattle.qs_clean.proofs.Places.{marked_le, marked_lt, in_both_from, length-both}
 use Rattle.qs_clean.proofs.ArcLists.{FreeArc, free_from_link, length-keeps, not_kept, reaches_last}

@@ -3,7 +3,7 @@ use Rattle.std.proofs.Common.{◌≡◌, ◌⊎◌, ℕ, zero, suc, ◌<◌, Lis
 use Rattle.qs_tree.specs.Lists.{◌∈◌}
 use Rattle.qs_tree.proofs.Members.{from_append, in_append_left, in_append_right}
 use Rattle.qs_clean.specs.declared.links.Link.{Link}
-use Rattle.qs_clean.specs.Links.{IsLinked, AreGroups}
+use Rattle.qs_clean.specs.working.Links.{IsLinked, AreGroups}
 
 in_empty : (groups : List (List ℕ)) (a b : ℕ) → b ∈ get_or (groups ++ [] ∷ []) a [] → b ∈ get_or groups a []
 in_empty [] zero b i = i

@@ -8,8 +8,8 @@ use Rattle.qs_firing.specs.Firings.{Firing}
 use Rattle.qs_canon.specs.Rounds.{Stage, firings}
 use Rattle.qs_canon.proofs.Keeping.{HasPath}
 use Rattle.qs_clean.specs.declared.links.Link.{Link}
-use Rattle.qs_clean.specs.Links.{Reaches, turned}
-use Rattle.qs_clean.specs.Steps.{each_pair, free_link, AreMarks}
+use Rattle.qs_clean.specs.working.Links.{Reaches, turned}
+use Rattle.qs_clean.specs.working.Steps.{each_pair, free_link, AreMarks}
 use Rattle.qs_clean.specs.Cleaning.{IsDenoted, Cleans, IsLeft}
 use Rattle.qs_clean.proofs.ArcLists.{free_from_link, reaches_last}
 use Rattle.qs_clean.proofs.Closures.{leads_within}

@@ -5,7 +5,7 @@ use Rattle.std.specs.declared.vec.Vec.{Vec}
 use Rattle.qs_tree.specs.Lists.{◌∈◌}
 use Rattle.qs_tree.proofs.Members.{in_append_right}
 use Rattle.qs_clean.specs.declared.links.Link.{Link}
-use Rattle.qs_clean.specs.Links.{AreGroups, AreMarked}
+use Rattle.qs_clean.specs.working.Links.{AreGroups, AreMarked}
 use Rattle.qs_clean.proofs.Exploring.{IsExploring, marked_before, marked_now, marked_within, exploring_start, exploring_on}
 use Rattle.qs_clean.proofs.Grouping.{group_link}
 

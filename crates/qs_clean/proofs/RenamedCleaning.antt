@@ -5,7 +5,8 @@ use Rattle.qs_graph.specs.Graphs.{Arc, QGraph, IsPath, IsEntry, IsExit, arcs_at}
 use Rattle.qs_firing.specs.Firings.{Firing}
 use Rattle.qs_canon.specs.Rounds.{Stage, firings}
 use Rattle.qs_clean.specs.Cleaning.{IsDenoted, Stays, IsEndOf, renumbered, Cleans}
-use Rattle.qs_clean.specs.Renaming.{IsRenaming, renamed_arc, renamed_graph, renamed_firing, renamed_stage}
+use Rattle.qs_clean.specs.Renaming.{IsRenaming, renamed_arc, renamed_graph}
+use Rattle.qs_clean.specs.working.Renaming.{renamed_firing, renamed_stage}
 use Rattle.qs_tree.proofs.Members.{mapped, in_map}
 use Rattle.qs_clean.proofs.RenamingUndone.{arcs_undone}
 use Rattle.qs_clean.proofs.RenamedFirings.{map_past, path_renamed, arcs_at_renamed}

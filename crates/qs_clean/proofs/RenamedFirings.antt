@@ -18,7 +18,8 @@ use Rattle.qs_pattern.specs.Variables.{firsts}
 use Rattle.qs_pattern.specs.Patterns.{Patterns, no_pattern, node_first, tree_var_first, forest_var_first, count, head_variables, variables_in, IsHeadInClass, AreInClass}
 use Rattle.qs_pattern.specs.Substitutions.{Substitution, variables_of, IsOfClass, forest_length, forest_lengths}
 use Rattle.qs_pattern.specs.Instances.{inst, IsCovered, IsMatch}
-use Rattle.qs_pattern.specs.Conditions.{Condition, Conditions, compared, negated, combined, no_condition, condition_first, HoldsIfGiven, EachListOfAll, condition_variables, IsConditionInClass, IsConditionCovered}
+use Rattle.qs_pattern.specs.Conditions.{Condition, Conditions, compared, negated, combined, no_condition, condition_first, HoldsIfGiven, condition_variables, IsConditionInClass, IsConditionCovered}
+use Rattle.qs_pattern.specs.working.Conditions.{EachListOfAll}
 use Rattle.qs_pattern.specs.Rules.{Rule, unmarked, IsAccepted, variables_if_given, IsInClassIfGiven, variables_behind}
 use Rattle.qs_pattern.proofs.MatchLemmas.{matched_value}
 use Rattle.qs_pattern.proofs.Covering.{all_covered, condition_covered, conditions_variables}
@@ -26,7 +27,8 @@ use Rattle.qs_graph.specs.Graphs.{Arc, QGraph, Leads, IsPath, arcs_at, trees_on}
 use Rattle.qs_graph.specs.Chains.{chain, with_chain}
 use Rattle.qs_firing.specs.Firings.{Firing, Fires, key, order}
 use Rattle.qs_firing.specs.Adding.{start_of, end_of, built, adds}
-use Rattle.qs_clean.specs.Renaming.{IsRenaming, renamed_tree, renamed_head, renamed_patterns, renamed_condition, renamed_conditions, renamed_rule, renamed_arc, renamed_graph, renamed_value, renamed_pair, renamed_substitution, renamed_firing}
+use Rattle.qs_clean.specs.Renaming.{IsRenaming, renamed_tree, renamed_head, renamed_patterns, renamed_condition, renamed_conditions, renamed_rule, renamed_arc, renamed_graph}
+use Rattle.qs_clean.specs.working.Renaming.{renamed_value, renamed_pair, renamed_substitution, renamed_firing}
 use Rattle.qs_clean.proofs.RenamedInstances.{inst_renamed, holds_renamed}
 
 -- two ways to take a list through two functions

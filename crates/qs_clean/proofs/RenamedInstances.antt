@@ -14,8 +14,10 @@ use Rattle.qs_pattern.specs.Variables.{same_var}
 use Rattle.qs_pattern.specs.Patterns.{Patterns, no_pattern, node_first, tree_var_first, forest_var_first}
 use Rattle.qs_pattern.specs.Substitutions.{Substitution, value_of}
 use Rattle.qs_pattern.specs.Instances.{label_in, tree_in, trees_in, label_of, inst, IsLabel, IsHeadCovered, IsCovered}
-use Rattle.qs_pattern.specs.Conditions.{Comparing, within, outside, Compares, all, any, Condition, Conditions, compared, negated, combined, no_condition, condition_first, Holds, AllHold, SomeHolds, IsConditionCovered, AreConditionsCovered}
-use Rattle.qs_clean.specs.Renaming.{IsRenaming, renamed_label, renamed_forest, renamed_tree, renamed_head, renamed_patterns, renamed_condition, renamed_conditions, renamed_value, renamed_substitution}
+use Rattle.qs_pattern.specs.Conditions.{Comparing, within, outside, Compares, all, any, Condition, Conditions, compared, negated, combined, no_condition, condition_first, Holds, AllHold, SomeHolds, IsConditionCovered}
+use Rattle.qs_pattern.specs.working.Conditions.{AreConditionsCovered}
+use Rattle.qs_clean.specs.Renaming.{IsRenaming, renamed_label, renamed_forest, renamed_tree, renamed_head, renamed_patterns, renamed_condition, renamed_conditions}
+use Rattle.qs_clean.specs.working.Renaming.{renamed_value, renamed_substitution}
 use Rattle.qs_tree.proofs.Members.{mapped, in_map}
 use Rattle.qs_clean.proofs.RenamingUndone.{tree_undone}
 

@@ -8,7 +8,8 @@ use Rattle.qs_graph.specs.Graphs.{Arc, QGraph}
 use Rattle.qs_firing.specs.Firings.{Firing, Fires, Before}
 use Rattle.qs_firing.specs.Adding.{built}
 use Rattle.qs_canon.specs.Rounds.{Round, Done, Stage, firings, after, after_one, Rounds, Closes, Needs}
-use Rattle.qs_clean.specs.Renaming.{IsRenaming, renamed_tree, renamed_rule, renamed_arc, renamed_graph, renamed_firing, renamed_done, renamed_stage}
+use Rattle.qs_clean.specs.Renaming.{IsRenaming, renamed_tree, renamed_rule, renamed_arc, renamed_graph}
+use Rattle.qs_clean.specs.working.Renaming.{renamed_firing, renamed_done, renamed_stage}
 use Rattle.qs_clean.proofs.RenamingUndone.{rules_undone, arcs_undone, firing_undone}
 use Rattle.qs_clean.proofs.RenamedInstances.{from_map_undone}
 use Rattle.qs_clean.proofs.RenamedFirings.{map_past, IsBound, bound_renamed, order_renamed, adds_renamed, built_renamed, fires_renamed}

@@ -7,7 +7,7 @@ use Rattle.qs_graph.specs.Kept.{IsKept}
 use Rattle.qs_tree.proofs.Members.{in_at, mapped, in_map, map-same}
 use Rattle.qs_graph.proofs.Paths.{path_above, Joined, joined_arc, joined_on, not_joined}
 use Rattle.qs_canon.specs.Rounds.{Stage}
-use Rattle.qs_clean.specs.Steps.{each_pair, marked, numbering, numbered_arc, if_kept, AreMarks}
+use Rattle.qs_clean.specs.working.Steps.{each_pair, marked, numbering, numbered_arc, if_kept, AreMarks}
 use Rattle.qs_clean.specs.Cleaning.{Cleans, IsEndOf, number_in, renumbered}
 use Rattle.qs_clean.proofs.Places.{places_ascend, in_places, length-places, numbering-number_in, number_range, number_one, number_all}
 use Rattle.qs_clean.proofs.ArcLists.{in_arcs_at, to_arcs_at, arcs_at-places, each_if_kept, length-if_kept, length-keeps}

@@ -2,7 +2,7 @@
 
 ghost use Rattle.std.specs.Prelude.{◌≤◌, IfOk, length};
 ghost use Rattle.qs_clean.specs.Cleaning.{IsLeft, IsClosureOfValid};
-ghost use Rattle.qs_clean.specs.Steps.{AreMarks};
+ghost use Rattle.qs_clean.specs.working.Steps.{AreMarks};
 
 use crate::arcs::{denoted_arcs, free_links, in_both, kept_arcs, left_arcs, numbered};
 use crate::links::{all_turned, reached};

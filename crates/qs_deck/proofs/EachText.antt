@@ -13,7 +13,7 @@ use Rattle.qs_lex.specs.declared.refusal.Refusal.{Refusal}
 use Rattle.qs_lex.proofs.Refusing.{some_refusal}
 use Rattle.qs_lex.specs.Tokens.{AreTokensOf}
 use Rattle.qs_lex.specs.Grammar.{part, IsWhole}
-use Rattle.qs_lex.specs.Expecting.{Stops}
+use Rattle.qs_lex.specs.working.Expecting.{Stops}
 use Rattle.qs_lex.proofs.Totality.{a_reading}
 use Rattle.qs_lex.proofs.Deciding.{Below, whole_or_stops}
 use Rattle.qs_lex.proofs.OpenParentheses.{first_too_deep}

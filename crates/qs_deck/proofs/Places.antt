@@ -5,7 +5,8 @@ use Rattle.std.proofs.Math.Seq.{take-append_seam}
 use Rattle.qs_lex.specs.declared.token.Token.{Token}
 use Rattle.qs_lex.specs.declared.token.Word.TheVariants.{Systeme}
 use Rattle.qs_lex.specs.Grammar.{the_word, part, Begins}
-use Rattle.qs_lex.specs.Expecting.{same_sort, NextIsNo, BeginAll, NotWithNext, Stops}
+use Rattle.qs_lex.specs.Expecting.{same_sort, NextIsNo}
+use Rattle.qs_lex.specs.working.Expecting.{BeginAll, NotWithNext, Stops}
 use Rattle.qs_lex.proofs.Expected.{whole_begins}
 use Rattle.qs_lex.proofs.Going.{leads_on, stops_here, stops_behind}
 use Rattle.qs_lex.proofs.Predictive.{whole_leads}

@@ -6,7 +6,8 @@ use Rattle.qs_lex.specs.declared.token.Token.{Token}
 use Rattle.qs_lex.specs.declared.token.Word.TheVariants.{Systeme, Graphe, Fin, Dans, Hors, Et, Ou, Non}
 use Rattle.qs_lex.specs.Tokens.{IsLabel, AreTokensOf, IsTokenOf}
 use Rattle.qs_lex.specs.Grammar.{Sort, a_label, a_label_variable, a_tree_variable, a_forest_variable, a_node_mark, the_word, opening, closing, comma, plus, slash, equals, stop, sort_of, IsOf, Form, one, part, ◌·◌, repeated, Begins, begins_token, begins_part, begins_first, begins_this, begins_other}
-use Rattle.qs_lex.specs.Expecting.{same_sort, NextIsNo, Leads, Stops}
+use Rattle.qs_lex.specs.Expecting.{same_sort, NextIsNo}
+use Rattle.qs_lex.specs.working.Expecting.{Leads, Stops}
 use Rattle.qs_lex.proofs.Going.{leads_on, leads_part, leads_sequence, stops_here, stops_behind}
 use Rattle.qs_lex.proofs.Stopping.{again_stops, repeat_leads}
 use Rattle.qs_lex.proofs.Renaming.{whole_in, whole_back, begins_in, begins_back}

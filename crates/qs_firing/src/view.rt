@@ -16,7 +16,7 @@ impl Model for View {
     ghost use Rattle.std.specs.Prelude.{List, ◌<◌, ◌^◌, length};
     ghost use Rattle.std.specs.Coded.{coded_list};
     ghost use Rattle.qs_graph.specs.Graphs.{Arc};
-    ghost use Rattle.qs_graph.specs.Codes.{arc_code};
+    ghost use Rattle.qs_graph.specs.working.Codes.{arc_code};
 
     ghost Value = { List Arc };
 

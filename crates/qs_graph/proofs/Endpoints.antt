@@ -6,7 +6,7 @@ use Rattle.qs_tree.proofs.Members.{in_map, from_map, from_append}
 use Rattle.qs_graph.specs.Graphs.{Arc, QGraph, IsNode, IsEntry, IsExit, ExactlyOne}
 use Rattle.qs_graph.specs.Kept.{IsKept}
 use Rattle.qs_graph.specs.Validity.{HasCycle, LeadsInside}
-use Rattle.qs_graph.specs.Orders.{IsOutside, IsOnly}
+use Rattle.qs_graph.specs.working.Orders.{IsOutside, IsOnly}
 
 pub only_same : (P Q : ℕ → Type 0) → ((n : ℕ) → P n ↔ Q n) → (r : Option ℕ) → IsOnly P r → IsOnly Q r
 only_same P Q h (Some n) o = ((h n).0 o.0, λ m q. o.1 m ((h m).1 q))

@@ -3,7 +3,7 @@ use Rattle.std.proofs.Common.{◌≡◌, ℕ, zero, suc, ◌+◌, ◌<◌, ◌�
 use Rattle.qs_tree.specs.Lists.{◌∈◌}
 use Rattle.qs_graph.specs.Graphs.{Arc}
 use Rattle.qs_graph.specs.Validity.{HasCycle}
-use Rattle.qs_graph.specs.Orders.{AreApart}
+use Rattle.qs_graph.specs.working.Orders.{AreApart}
 use Rattle.qs_graph.proofs.Numbers.{decide_in, apart_fit}
 use Rattle.qs_graph.proofs.Paths.{Joined, JoinedOrSame, joined_arc, joined_then}
 

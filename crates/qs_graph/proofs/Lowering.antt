@@ -5,7 +5,7 @@ use Rattle.std.specs.declared.vec.Vec.{Vec}
 use Rattle.qs_tree.specs.Lists.{◌∈◌}
 use Rattle.qs_tree.proofs.Decisions.{decide_number}
 use Rattle.qs_graph.specs.Graphs.{Arc}
-use Rattle.qs_graph.specs.Orders.{one_if, times, targets_from, IsLowered}
+use Rattle.qs_graph.specs.working.Orders.{one_if, times, targets_from, IsLowered}
 use Rattle.qs_tree.proofs.Members.{from_append, in_append_left, in_append_right}
 use Rattle.std.proofs.lemmas.Bool.{ne_eqb}
 use Rattle.qs_graph.proofs.Numbers.{one-same, one-other, times-more, times-take, apart_append, get_or-set, within_count}

@@ -5,7 +5,7 @@ use Rattle.std.proofs.lemmas.Bool.{ne_eqb, false_from_ne_true}
 use Rattle.std.proofs.lemmas.List.{take_more, get_or-set_same, get_or-set_other}
 use Rattle.qs_tree.specs.Lists.{◌∈◌}
 use Rattle.qs_tree.proofs.Decisions.{true_false, decide_number, decide_member}
-use Rattle.qs_graph.specs.Orders.{one_if, times, has, AreApart, IsOutside, IsOnly}
+use Rattle.qs_graph.specs.working.Orders.{one_if, times, has, AreApart, IsOutside, IsOnly}
 use Rattle.qs_tree.proofs.Members.{from_append, in_append_left, in_append_right, in_get_or}
 
 pub decide_in : (n : ℕ) (ns : List ℕ) → Dec (n ∈ ns)

@@ -6,7 +6,7 @@ use Rattle.qs_tree.specs.Lists.{◌∈◌}
 use Rattle.qs_tree.proofs.Decisions.{decide_number}
 use Rattle.qs_graph.specs.Graphs.{Arc, IsNode}
 use Rattle.qs_graph.specs.Validity.{HasCycle}
-use Rattle.qs_graph.specs.Orders.{one_if, times, has, AreApart, targets_from, IsLowered}
+use Rattle.qs_graph.specs.working.Orders.{one_if, times, has, AreApart, targets_from, IsLowered}
 use Rattle.qs_tree.proofs.Members.{from_append, in_append_left, in_append_right, in_get_or}
 use Rattle.qs_graph.proofs.GoingRound.{goes_round}
 use Rattle.qs_graph.proofs.Paths.{path_above}

@@ -19,7 +19,7 @@ pub struct Edge {
 impl Model for Edge {
     ghost use Rattle.std.specs.Arc.{arc_value};
     ghost use Rattle.qs_graph.specs.Graphs.{Arc};
-    ghost use Rattle.qs_graph.specs.Codes.{arc_code};
+    ghost use Rattle.qs_graph.specs.working.Codes.{arc_code};
 
     ghost Value = { Arc };
 

@@ -4,7 +4,7 @@ ghost use Rattle.std.specs.Prelude.{◌≡◌, ◌≢◌, ◌↔◌, ◌<◌, �
 ghost use Rattle.qs_tree.specs.Lists.{◌∈◌};
 ghost use Rattle.qs_graph.specs.Graphs.{IsEntry, IsExit};
 ghost use Rattle.qs_graph.specs.Validity.{LeadsInside};
-ghost use Rattle.qs_graph.specs.Orders.{times, AreApart, IsOutside, IsOnly};
+ghost use Rattle.qs_graph.specs.working.Orders.{times, AreApart, IsOutside, IsOnly};
 
 use crate::edge::Edge;
 use std::alloc::{AllocError, Global};

@@ -23,7 +23,7 @@ pub struct Graph {
 
 impl Model for Graph {
     ghost use Rattle.qs_graph.specs.Graphs.{QGraph, IsValid, IsEntry, IsExit};
-    ghost use Rattle.qs_graph.specs.Codes.{graph_code};
+    ghost use Rattle.qs_graph.specs.working.Codes.{graph_code};
 
     ghost Value = { QGraph };
 

@@ -4,7 +4,7 @@ ghost use Rattle.std.specs.Prelude.{◌≡◌, ◌<◌, ◌≤◌, ◌+◌, ◌^
 ghost use Rattle.qs_tree.specs.Lists.{◌∈◌};
 ghost use Rattle.qs_graph.specs.Graphs.{Arc};
 ghost use Rattle.qs_graph.specs.Validity.{LeadsInside, HasCycle};
-ghost use Rattle.qs_graph.specs.Orders.{times, targets_from, IsLowered};
+ghost use Rattle.qs_graph.specs.working.Orders.{times, targets_from, IsLowered};
 
 use crate::edge::Edge;
 use crate::ends::{tally, targets_of, uncounted};

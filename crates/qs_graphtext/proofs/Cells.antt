@@ -4,8 +4,10 @@ use Rattle.std.specs.Prelude.{slice_set}
 use Rattle.std.proofs.lemmas.List.{set_at}
 use Rattle.qs_tree.specs.declared.cell.Label.{Label}
 use Rattle.qs_tree.specs.declared.cell.Cell.{Cell}
-use Rattle.qs_tree.specs.Trees.{Forest, no_tree, first_tree, Tree, size, join}
-use Rattle.qs_tree.specs.Cells.{cells_of, cells_of_tree, IsTree, tree_of, tree_of-cells_of_tree}
+use Rattle.qs_tree.specs.Trees.{Forest, no_tree, first_tree, Tree, size}
+use Rattle.qs_tree.specs.working.Trees.{join}
+use Rattle.qs_tree.specs.Cells.{cells_of, cells_of_tree, IsTree, tree_of}
+use Rattle.qs_tree.specs.working.Cells.{tree_of-cells_of_tree}
 use Rattle.qs_tree.proofs.Runs.{length-cells_of}
 use Rattle.qs_tree.proofs.Joined.{cells_of-join}
 

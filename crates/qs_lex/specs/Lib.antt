@@ -11,5 +11,4 @@ pub mod Nesting
 -- What the crates that read parts of a deck from its tokens share.
 pub mod Grammar
 pub mod Expecting
--- No public contract cites this: it is what the private functions of the scanner compute.
-pub mod Scan
+pub mod working

@@ -17,7 +17,7 @@ use Rattle.qs_pattern.specs.Substitutions.{value_of}
 use Rattle.qs_pattern.specs.Substitutions.{Substitution, forest_lengths, forest_length}
 use Rattle.qs_pattern.specs.Variables.{IsForestVar}
 use Rattle.qs_match.specs.Order.{LengthsBefore}
-use Rattle.qs_match.specs.Tasks.{Tasks, task_variables, Extends, Solves, Lists, Appends, Binds, HasOther, TakesFront}
+use Rattle.qs_match.specs.working.Tasks.{Tasks, task_variables, Extends, Solves, Lists, Appends, Binds, HasOther, TakesFront}
 use Rattle.qs_match.proofs.Values.{known_value, new_to}
 use Rattle.qs_match.proofs.Binding.{bind_to, bind_from, clash_never, forest_value}
 use Rattle.qs_match.proofs.Listed.{lists_both, lists_same, lists_none, appends_none}

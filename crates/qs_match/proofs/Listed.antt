@@ -4,7 +4,7 @@ use Rattle.qs_tree.specs.Lists.{◌∈◌, Ascends}
 use Rattle.qs_tree.proofs.Members.{in_append_left, in_append_right, from_append}
 use Rattle.qs_pattern.specs.Substitutions.{Substitution, variables_of}
 use Rattle.qs_match.specs.Order.{LengthsBefore}
-use Rattle.qs_match.specs.Tasks.{Tasks, Solves, AreOfClass, Lists, Appends}
+use Rattle.qs_match.specs.working.Tasks.{Tasks, Solves, AreOfClass, Lists, Appends}
 
 module _ {X : Type 0} where
   pub Ascends-append : (Below : X → X → Type 0) (xs ys : List X) → Ascends Below xs → Ascends Below ys → ((x y : X) → x ∈ xs → y ∈ ys → Below x y) → Ascends Below (xs ++ ys)

@@ -2,8 +2,9 @@
 use Rattle.std.proofs.Common.{◌≡◌, ℕ, ◌+◌, ◌<◌, ◌≤◌, List, [], ◌∷◌, length, drop, get_or, refl, sym, ap, ◌∙◌, arith}
 use Rattle.std.proofs.lemmas.List.{drop_more, drop_all}
 use Rattle.qs_pattern.specs.declared.pattern.Pattern.{Pattern, Node', Tree, Forest}
-use Rattle.qs_pattern.specs.Patterns.{Patterns, pattern_before, patterns, one_pattern, NoForestAtTop}
-use Rattle.qs_match.specs.Counts.{singles, CanFit}
+use Rattle.qs_pattern.specs.Patterns.{Patterns, pattern_before, patterns, NoForestAtTop}
+use Rattle.qs_pattern.specs.working.Patterns.{one_pattern}
+use Rattle.qs_match.specs.working.Counts.{singles, CanFit}
 
 singles-before : (p : Pattern) (us : Patterns) → singles (pattern_before p us) ≡ singles (one_pattern p) + singles us
 singles-before (Node' h shape kids) us = omega arith

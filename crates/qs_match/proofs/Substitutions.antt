@@ -5,7 +5,7 @@ use Rattle.qs_pattern.specs.declared.subst.Value.{Value}
 use Rattle.qs_pattern.specs.Variables.{same_var}
 use Rattle.qs_pattern.specs.Substitutions.{Substitution, value_of, IsOfClass, IsSubstitution}
 use Rattle.qs_pattern.proofs.SubstitutionLemmas.{same_var-comm, absent_parts, IsSubstitution-push}
-use Rattle.qs_match.specs.Tasks.{Binds}
+use Rattle.qs_match.specs.working.Tasks.{Binds}
 
 first_not : (p : Var × Value) (s : Substitution) (v : Var) → same_var p.0 v ≡ false → value_of s v ≡ None → value_of (p ∷ s) v ≡ None
 first_not p s v e n = ap (λ b. cond b (Some p.1) (value_of s v)) e ∙ n

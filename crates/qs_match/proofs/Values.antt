@@ -8,7 +8,7 @@ use Rattle.qs_pattern.specs.Substitutions.{value_of}
 use Rattle.qs_tree.specs.Lists.{◌∈◌}
 use Rattle.qs_pattern.specs.Substitutions.{Substitution, variables_of}
 use Rattle.qs_pattern.proofs.VariableLemmas.{same_var-true, same_var-refl}
-use Rattle.qs_match.specs.Tasks.{was_seen, new_ones, Extends}
+use Rattle.qs_match.specs.working.Tasks.{was_seen, new_ones, Extends}
 
 module _ (v : Var) where
   -- a value that is there stays the value

@@ -10,10 +10,10 @@ use Rattle.qs_pattern.specs.Instances.{IsMatch, variables}
 use Rattle.qs_pattern.specs.Patterns.{variables_in, AreInClass}
 use Rattle.qs_pattern.specs.Variables.{firsts}
 use Rattle.qs_pattern.proofs.VariableLemmas.{same_var-true}
-use Rattle.qs_match.specs.Tasks.{Tasks, was_seen, new_ones, variables_before, Solves, Lists, Appends}
+use Rattle.qs_match.specs.working.Tasks.{Tasks, was_seen, new_ones, variables_before, Solves, Lists, Appends}
 use Rattle.qs_match.proofs.Listed.{lists_same, lists_none}
 use Rattle.qs_match.proofs.Covered.{fits}
-use Rattle.qs_match.specs.Counts.{CanFit}
+use Rattle.qs_match.specs.working.Counts.{CanFit}
 
 pub variables_before-is : (ps : Patterns) (vs : List Var) → variables_before ps vs ≡ variables_in ps ++ vs
 variables_before-is no_pattern vs = refl

@@ -5,12 +5,13 @@ ghost use Rattle.std.specs.Prelude.{ℕ, ◌≡◌, ◌↔◌, ◌+◌, ◌<◌,
 ghost use Rattle.qs_tree.specs.Trees.{Tree};
 ghost use Rattle.qs_tree.specs.Cells.{trees_of};
 ghost use Rattle.qs_tree.specs.Splits.{front_of, behind_of};
-ghost use Rattle.qs_pattern.specs.Patterns.{one_pattern, patterns, AreInClass};
+ghost use Rattle.qs_pattern.specs.Patterns.{patterns, AreInClass};
+ghost use Rattle.qs_pattern.specs.working.Patterns.{one_pattern};
 ghost use Rattle.qs_pattern.specs.Variables.{IsForestVar};
 ghost use Rattle.qs_pattern.specs.Substitutions.{Substitution, value_of};
-ghost use Rattle.qs_match.specs.Counts.{singles, CanFit, CanBeRoot};
-ghost use Rattle.qs_match.specs.Tasks.{TakesFront};
-ghost use Rattle.qs_match.specs.Bindings.{substitution_of};
+ghost use Rattle.qs_match.specs.working.Counts.{singles, CanFit, CanBeRoot};
+ghost use Rattle.qs_match.specs.working.Tasks.{TakesFront};
+ghost use Rattle.qs_match.specs.working.Bindings.{substitution_of};
 
 use crate::bindings::{Bindings, ValueRef, find};
 use qs_pattern::{Head, Pattern, Value, Var};

@@ -10,9 +10,9 @@ ghost use Rattle.qs_pattern.specs.Substitutions.{Substitution, IsOfClass, IsSubs
 ghost use Rattle.qs_pattern.specs.Instances.{IsMatch};
 ghost use Rattle.qs_pattern.specs.Patterns.{AreInClass};
 ghost use Rattle.qs_match.specs.Order.{LengthsBefore};
-ghost use Rattle.qs_match.specs.Tasks.{Appends, AppendsWith, IsInClass};
-ghost use Rattle.qs_match.specs.Bindings.{value_of_ref, substitution_of};
-ghost use Rattle.qs_match.specs.Remaining.{tasks_of};
+ghost use Rattle.qs_match.specs.working.Tasks.{Appends, AppendsWith, IsInClass};
+ghost use Rattle.qs_match.specs.working.Bindings.{value_of_ref, substitution_of};
+ghost use Rattle.qs_match.specs.working.Remaining.{tasks_of};
 
 use crate::bindings::{Bindings, ValueRef, are_equal, find, subst_of};
 use crate::counts::{can_be_root, can_fit, lengths_of, split_behind};

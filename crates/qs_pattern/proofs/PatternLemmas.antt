@@ -6,7 +6,8 @@ use mathlib.Core.Former.{Count}
 use Rattle.qs_pattern.specs.declared.pattern.Head.{Head}
 use Rattle.qs_pattern.specs.declared.pattern.Pattern.{Pattern, Node, Node', Tree, Forest, Row_of-Pattern, end_of-Pattern, more_of-Pattern, items-the_row-Pattern, items_hidden-the_row-Pattern-0}
 use Rattle.qs_pattern.specs.declared.pattern.Pattern.TheBlock.{hidden-the_row-Pattern-0}
-use Rattle.qs_pattern.specs.Patterns.{Patterns, no_pattern, node_first, tree_var_first, forest_var_first, pattern_before, row_patterns, patterns, one_pattern, count}
+use Rattle.qs_pattern.specs.Patterns.{Patterns, no_pattern, node_first, tree_var_first, forest_var_first, pattern_before, row_patterns, patterns, count}
+use Rattle.qs_pattern.specs.working.Patterns.{one_pattern}
 
 row_patterns-is : {n : Count} (k : Row_of-Pattern n) → row_patterns k ≡ patterns (items-the_row-Pattern n k)
 row_patterns-is end_of-Pattern = refl

@@ -30,9 +30,6 @@ abbrev pub patterns : List Pattern → Patterns
 patterns [] = no_pattern
 patterns (p ∷ ps) = pattern_before p (patterns ps)
 
-abbrev pub one_pattern : Pattern → Patterns
-one_pattern p = pattern_before p no_pattern
-
 -- How many patterns the list has, those inside nodes left aside.
 abbrev pub count : Patterns → ℕ
 count no_pattern = 0

@@ -31,7 +31,7 @@ pub struct Rule {
 impl Model for Rule {
     ghost use Rattle.std.specs.Prelude.{option_map};
     ghost use Rattle.qs_pattern.specs.Rules.{Rule as RuleOfPatterns, IsAccepted};
-    ghost use Rattle.qs_pattern.specs.Codes.{rule_code};
+    ghost use Rattle.qs_pattern.specs.working.Codes.{rule_code};
     ghost use Rattle.qs_pattern.specs.Patterns.{patterns};
     ghost use Rattle.qs_pattern.specs.Conditions.{condition_of};
 

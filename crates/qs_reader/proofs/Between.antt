@@ -5,7 +5,7 @@ use Rattle.std.proofs.Math.Seq.{take-append_seam}
 use Rattle.std.proofs.lemmas.List.{take-append-drop}
 use Rattle.qs_lex.specs.declared.token.Token.{Token}
 use Rattle.qs_lex.specs.Grammar.{Sort, sort_of, Form, one, Grammar, IsWhole, Begins, begins_token}
-use Rattle.qs_lex.specs.Expecting.{goes_on, IsPredictive, BeginAll, NotWithNext, Stops}
+use Rattle.qs_lex.specs.working.Expecting.{goes_on, IsPredictive, BeginAll, NotWithNext, Stops}
 use Rattle.qs_lex.proofs.Expected.{whole_begins}
 use Rattle.qs_lex.proofs.Predictive.{IsPredicted}
 use Rattle.qs_lex.proofs.Stopping.{front_of}

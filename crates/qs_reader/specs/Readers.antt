@@ -5,7 +5,8 @@ use Rattle.qs_lex.specs.declared.token.Kind.{Kind}
 use Rattle.qs_lex.specs.declared.token.Kind.TheVariants.{Bare, Quoted, Variable, Node}
 use Rattle.qs_lex.specs.Tokens.{IsTokenOf}
 use Rattle.qs_lex.specs.Grammar.{Sort, sort_of, IsOf, Form, one, part, ◌·◌, ◌∣◌, optional, repeated, Grammar, IsWhole, Begins}
-use Rattle.qs_lex.specs.Expecting.{same_sort, nullable, first, NextIsNo, Stops}
+use Rattle.qs_lex.specs.Expecting.{same_sort, NextIsNo}
+use Rattle.qs_lex.specs.working.Expecting.{nullable, first, Stops}
 use Rattle.qs_tree.specs.declared.cell.Label.{Label}
 use Rattle.qs_reader.specs.declared.text_end.TextEnd.{TextEnd}
 use Rattle.qs_reader.specs.declared.text_end.TextEnd.TheVariants.{Syntax, Memory}

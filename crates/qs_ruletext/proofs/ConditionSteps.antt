@@ -3,11 +3,13 @@ use Rattle.std.proofs.Common.{◌≡◌, ℕ, ◌≤◌, ◌||◌, refl, sym, �
 use Rattle.qs_lex.specs.declared.token.Token.{Token}
 use Rattle.qs_lex.specs.declared.token.Word.TheVariants.{Dans, Hors, Et, Ou, Non}
 use Rattle.qs_lex.specs.Grammar.{Sort, opening, closing, comma, the_word, Form, one, part, ◌·◌, ◌∣◌, optional}
-use Rattle.qs_lex.specs.Expecting.{same_sort, NextIsNo, Leads}
+use Rattle.qs_lex.specs.Expecting.{same_sort, NextIsNo}
+use Rattle.qs_lex.specs.working.Expecting.{Leads}
 use Rattle.qs_lex.proofs.Going.{leads_on, leads_part, leads_sequence, leads_this, leads_other, leads_without, leads_with}
 use Rattle.qs_pattern.specs.declared.condition.Cond.{Cond}
 use Rattle.qs_pattern.specs.Patterns.{Patterns}
-use Rattle.qs_pattern.specs.Conditions.{within, outside, all, any, Condition, Conditions, compared, negated, combined, no_condition, condition_first, condition_of, conditions}
+use Rattle.qs_pattern.specs.Conditions.{within, outside, all, any, Condition, Conditions, compared, negated, combined, no_condition, condition_first, condition_of}
+use Rattle.qs_pattern.specs.working.Conditions.{conditions}
 use Rattle.qs_ruletext.specs.Grammar.{Part, list, cond, neg, prim, line}
 use Rattle.qs_ruletext.specs.declared.cursor.Halt.{Halt}
 use Rattle.qs_ruletext.specs.declared.cursor.Halt.TheVariants.{Syntax}

@@ -5,7 +5,7 @@ use Rattle.std.proofs.lemmas.List.{take-append-drop}
 use Rattle.std.specs.Prelude.{slice_get, ◌⊎◌}
 use Rattle.qs_lex.specs.declared.token.Token.{Token}
 use Rattle.qs_lex.specs.Grammar.{sort_of, IsOf, a_label, a_label_variable, a_tree_variable, Form, one, part, repeated, IsWhole, whole_token, whole_part, whole_sequence, whole_this, whole_other, left_out, not_left_out, no_more, one_more, Begins, begins_token, begins_part, begins_first, begins_this, begins_other}
-use Rattle.qs_lex.specs.Expecting.{BeginAll, NotWithNext, Stops}
+use Rattle.qs_lex.specs.working.Expecting.{BeginAll, NotWithNext, Stops}
 use Rattle.qs_lex.proofs.Expected.{whole_begins}
 use Rattle.qs_ruletext.specs.declared.cursor.Halt.TheVariants.{Syntax}
 use Rattle.qs_ruletext.specs.Grammar.{Part, rule, line}

@@ -3,7 +3,8 @@
 use Rattle.std.proofs.Common.{◌≡◌, ℕ, ◌+◌, ◌≤◌, Bool, false, ◌||◌, refl, sym, subst, List, [], ◌∷◌, length, arith}
 use Rattle.qs_lex.specs.declared.token.Token.{Token}
 use Rattle.qs_lex.specs.Grammar.{Sort, a_label, Form, one, part, ◌·◌, repeated}
-use Rattle.qs_lex.specs.Expecting.{same_sort, starts, NextIsNo, Refuse, Leads}
+use Rattle.qs_lex.specs.Expecting.{same_sort, NextIsNo}
+use Rattle.qs_lex.specs.working.Expecting.{starts, Refuse, Leads}
 use Rattle.qs_lex.proofs.Going.{leads_on, leads_part, leads_sequence, leads_done, leads_again}
 use Rattle.qs_ruletext.specs.Grammar.{Part, line}
 use Rattle.qs_ruletext.specs.declared.cursor.Halt.{Halt}

@@ -4,7 +4,8 @@ use Rattle.std.proofs.Math.Seq.{take-append_seam}
 use Rattle.qs_lex.specs.declared.token.Token.{Token}
 use Rattle.qs_lex.specs.declared.token.Word.TheVariants.{Et, Ou}
 use Rattle.qs_lex.specs.Grammar.{Sort, opening, comma, plus, slash, equals, stop, the_word, Form, one, part, ◌·◌, optional}
-use Rattle.qs_lex.specs.Expecting.{starts, same_sort, NextIsNo, Leads}
+use Rattle.qs_lex.specs.Expecting.{same_sort, NextIsNo}
+use Rattle.qs_lex.specs.working.Expecting.{starts, Leads}
 use Rattle.qs_lex.proofs.Going.{leads_on, leads_part, leads_sequence, leads_without, leads_with}
 use Rattle.qs_pattern.specs.Patterns.{Patterns}
 use Rattle.qs_pattern.specs.Conditions.{Condition}

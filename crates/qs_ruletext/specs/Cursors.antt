@@ -7,7 +7,8 @@ use Rattle.qs_lex.specs.declared.token.Kind.TheVariants.{Bare, Quoted, Variable,
 use Rattle.qs_lex.specs.declared.token.Word.TheVariants.{Non}
 use Rattle.qs_lex.specs.Tokens.{IsTokenOf}
 use Rattle.qs_lex.specs.Grammar.{Sort, a_label, a_label_variable, a_tree_variable, a_forest_variable, the_word, opening, sort_of, IsOf, Form}
-use Rattle.qs_lex.specs.Expecting.{same_sort, NextIsNo, Refuse, Leads, Stops}
+use Rattle.qs_lex.specs.Expecting.{same_sort, NextIsNo}
+use Rattle.qs_lex.specs.working.Expecting.{Refuse, Leads, Stops}
 use Rattle.qs_pattern.specs.declared.variable.Var.{Var}
 use Rattle.qs_pattern.specs.Letters.{IsVariable}
 use Rattle.qs_ruletext.specs.declared.cursor.Start.{Start}

@@ -2,7 +2,8 @@
 
 ghost use Rattle.std.specs.Prelude.{◌≡◌, ◌^◌, ◌+◌, ◌<◌, IfOk, IfErr, length};
 ghost use Rattle.qs_lex.specs.Grammar.{part};
-ghost use Rattle.qs_pattern.specs.Conditions.{condition_of, conditions};
+ghost use Rattle.qs_pattern.specs.Conditions.{condition_of};
+ghost use Rattle.qs_pattern.specs.working.Conditions.{conditions};
 ghost use Rattle.qs_reader.specs.Names.{KeepsNames};
 ghost use Rattle.qs_reader.specs.Readers.{rest_of};
 ghost use Rattle.qs_ruletext.specs.Grammar.{cond, conj, neg, prim};

@@ -3,7 +3,8 @@
 ghost use Rattle.std.specs.Prelude.{◌≡◌, ◌^◌, ◌+◌, ◌<◌, false, IfOk, IfErr, IfSome, IfNone, IsTrue, IsFalse, length};
 ghost use Rattle.qs_lex.specs.Grammar.{sort_of, part};
 ghost use Rattle.qs_lex.specs.Expecting.{NextIsNo};
-ghost use Rattle.qs_pattern.specs.Patterns.{one_pattern, patterns};
+ghost use Rattle.qs_pattern.specs.Patterns.{patterns};
+ghost use Rattle.qs_pattern.specs.working.Patterns.{one_pattern};
 ghost use Rattle.qs_reader.specs.Names.{KeepsNames};
 ghost use Rattle.qs_reader.specs.Readers.{rest_of, IsNext, Stays};
 ghost use Rattle.qs_ruletext.specs.Grammar.{tree, list, item, side};

@@ -5,3 +5,4 @@ pub mod Sameness
 pub mod Cells
 pub mod Splits
 pub mod Text
+pub mod working

@@ -16,7 +16,8 @@ use Rattle.qs_pattern.specs.declared.pattern.Head.{Head}
 use Rattle.qs_pattern.specs.declared.pattern.Head.TheVariants as head
 use Rattle.qs_pattern.specs.Variables.{IsTreeVar, IsForestVar}
 use Rattle.qs_pattern.specs.Patterns.{Patterns, no_pattern, node_first, tree_var_first, forest_var_first, count, IsHeadInClass, AreInClass}
-use Rattle.qs_pattern.specs.Conditions.{Comparing, Joining, all, any, Condition, Conditions, compared, negated, combined, no_condition, condition_first, EachListOfAll, IsConditionInClass}
+use Rattle.qs_pattern.specs.Conditions.{Comparing, Joining, all, any, Condition, Conditions, compared, negated, combined, no_condition, condition_first, IsConditionInClass}
+use Rattle.qs_pattern.specs.working.Conditions.{EachListOfAll}
 use Rattle.qs_pattern.specs.Rules.{UnmarkedRule, IsInClassIfGiven}
 use Rattle.qs_ruletext.specs.Reading.{IsVariableOf, comparing_word}
 use Rattle.qs_ruletext.specs.Texts.{joined, in_parentheses, variable_text, head_text, kids_text, pattern_texts, list_text, side_text, joining_tightness, tightness, spaced_word, joining_word, member_text, condition_text, member_texts, condition_part}

@@ -7,8 +7,8 @@ use Rattle.qs_firing.specs.Firings.{Firing}
 use Rattle.qs_canon.specs.Rounds.{Stage, after}
 use Rattle.qs_canon.specs.Closures.{ClosureOf}
 use Rattle.qs_canon.proofs.Rounds.{length-after}
-use Rattle.qs_cascade.specs.Finding.{FindsRound}
-use Rattle.qs_cascade.specs.Closing.{ClosesSoon}
+use Rattle.qs_cascade.specs.working.Finding.{FindsRound}
+use Rattle.qs_cascade.specs.working.Closing.{ClosesSoon}
 use Rattle.qs_cascade.proofs.Closings.{Goes, goes_first, goes_next, gives_up, passes, closes_soon}
 use Rattle.qs_cascade.proofs.closing.closure.Goals as goal
 

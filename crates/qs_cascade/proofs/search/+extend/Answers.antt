@@ -3,12 +3,13 @@ use Rattle.std.proofs.lemmas.Result.{IfOk-weaker}
 use Rattle.std.proofs.lemmas.List.{take_more, take_all}
 use Rattle.std.proofs.lemmas.Option.{slice_get_within}
 use Rattle.qs_tree.specs.Lists.{◌∈◌, Ascends}
-use Rattle.qs_pattern.specs.Patterns.{count, one_pattern}
+use Rattle.qs_pattern.specs.Patterns.{count}
+use Rattle.qs_pattern.specs.working.Patterns.{one_pattern}
 use Rattle.qs_pattern.specs.Substitutions.{Substitution}
 use Rattle.qs_pattern.specs.Instances.{inst}
 use Rattle.qs_graph.specs.Graphs.{Arc, IsPath, IsNode}
-use Rattle.qs_cascade.specs.Leaving.{leaving}
-use Rattle.qs_cascade.specs.Finding.{Finds, GoesOn, Begins, IsNewPath}
+use Rattle.qs_cascade.specs.working.Leaving.{leaving}
+use Rattle.qs_cascade.specs.working.Finding.{Finds, GoesOn, Begins, IsNewPath}
 use Rattle.qs_cascade.proofs.Places.{at_place}
 use Rattle.qs_cascade.proofs.Findings.{finds_same, finds_none, finds_stop, true_is_not_false}
 use Rattle.qs_cascade.proofs.Following.{left_by, leaving-ascends, goes_on, begins_of, one_more, one_refused, path_and_arc}

@@ -1,9 +1,10 @@
 use Rattle.std.proofs.Common.{◌≡◌, ◌⊎◌, ℕ, ⊎_elim, inl, inr, true, false, List, [], ◌∷◌, ◌++◌, refl, sym, ap, ◌∙◌, subst, arith}
-use Rattle.qs_pattern.specs.Patterns.{count, one_pattern}
+use Rattle.qs_pattern.specs.Patterns.{count}
+use Rattle.qs_pattern.specs.working.Patterns.{one_pattern}
 use Rattle.qs_pattern.specs.Substitutions.{Substitution}
 use Rattle.qs_pattern.specs.Instances.{inst}
 use Rattle.qs_graph.specs.Graphs.{Arc, IsPath}
-use Rattle.qs_cascade.specs.Finding.{Finds, GoesOn, Begins, numbers}
+use Rattle.qs_cascade.specs.working.Finding.{Finds, GoesOn, Begins, numbers}
 use Rattle.qs_cascade.proofs.Findings.{finds_same, finds_stop}
 use Rattle.qs_cascade.proofs.Following.{begins_of, one_more, one_refused, path_and_arc}
 use Rattle.qs_cascade.proofs.Refusing.{refused}

@@ -1,6 +1,7 @@
 use Rattle.std.proofs.Common.{ap, ◌∙◌, sym}
-use Rattle.qs_pattern.specs.Patterns.{one_pattern, no_pattern}
-use Rattle.qs_match.specs.Counts.{singles}
+use Rattle.qs_pattern.specs.Patterns.{no_pattern}
+use Rattle.qs_pattern.specs.working.Patterns.{one_pattern}
+use Rattle.qs_match.specs.working.Counts.{singles}
 use Rattle.qs_pattern.proofs.PatternLemmas.{pattern-Node}
 use Rattle.qs_match.proofs.counts.tree_count.Goals as goal
 

@@ -3,8 +3,8 @@ use Rattle.qs_tree.specs.Cells.{trees_of, tree_of}
 use Rattle.qs_tree.specs.Splits.{front_of, behind_of}
 use Rattle.qs_pattern.specs.Patterns.{patterns}
 use Rattle.qs_pattern.specs.Patterns.{AreInClass, cells}
-use Rattle.qs_match.specs.Remaining.{tasks_of}
-use Rattle.qs_match.specs.Bindings.{substitution_of, value_of_ref}
+use Rattle.qs_match.specs.working.Remaining.{tasks_of}
+use Rattle.qs_match.specs.working.Bindings.{substitution_of, value_of_ref}
 use Rattle.qs_match.proofs.Variants.{tasks-Nothing, tasks-Then, substitution-More}
 use Rattle.qs_pattern.proofs.SubstitutionLemmas.{substitution_class}
 use Rattle.qs_match.proofs.Substitutions.{binds_substitution}

@@ -3,8 +3,8 @@ use Rattle.qs_tree.specs.Cells.{trees_of}
 use Rattle.qs_tree.specs.Splits.{front_of, behind_of}
 use Rattle.qs_pattern.specs.Patterns.{patterns, node_first, tree_var_first, forest_var_first}
 use Rattle.qs_match.proofs.Measures.{list_steps, steps}
-use Rattle.qs_match.specs.Remaining.{tasks_of}
-use Rattle.qs_match.specs.Bindings.{substitution_of}
+use Rattle.qs_match.specs.working.Remaining.{tasks_of}
+use Rattle.qs_match.specs.working.Bindings.{substitution_of}
 use Rattle.qs_match.proofs.Fronts.{SplitsAt}
 use Rattle.qs_match.proofs.search.+search.Given as goal
 

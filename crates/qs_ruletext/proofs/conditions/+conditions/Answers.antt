@@ -2,7 +2,8 @@ use Rattle.std.proofs.Common.{refl, ap, ◌∷◌}
 use Rattle.std.proofs.lemmas.Result.{IfOk-weaker, IfErr-weaker}
 use Rattle.qs_lex.specs.declared.token.Word.TheVariants.{Et, Ou}
 use Rattle.qs_lex.specs.Grammar.{the_word, part}
-use Rattle.qs_pattern.specs.Conditions.{negated, condition_of, conditions}
+use Rattle.qs_pattern.specs.Conditions.{negated, condition_of}
+use Rattle.qs_pattern.specs.working.Conditions.{conditions}
 use Rattle.qs_ruletext.specs.Grammar.{cond, conj, neg, prim}
 use Rattle.qs_ruletext.specs.Cursors.{Ends}
 use Rattle.qs_ruletext.proofs.Tables.{hands_on}

@@ -1,7 +1,8 @@
 use Rattle.std.proofs.Common.{◌+◌, ◌*◌, [], ◌∷◌, length}
 use Rattle.qs_lex.specs.declared.token.Word.TheVariants.{Et, Ou}
 use Rattle.qs_lex.specs.Grammar.{the_word, opening, comma, one, part, ◌·◌}
-use Rattle.qs_pattern.specs.Conditions.{condition_of, conditions}
+use Rattle.qs_pattern.specs.Conditions.{condition_of}
+use Rattle.qs_pattern.specs.working.Conditions.{conditions}
 use Rattle.qs_ruletext.specs.Grammar.{cond, conj, neg}
 use Rattle.qs_ruletext.proofs.Repeating.{Repeats}
 use Rattle.qs_ruletext.proofs.ConditionSteps.{CompletesCond, CompletesConj}

@@ -1,7 +1,8 @@
 use Rattle.std.proofs.Common.{refl, ap, ◌∙◌, [], ◌∷◌}
 use Rattle.std.proofs.lemmas.Result.{IfOk-weaker, IfErr-weaker}
 use Rattle.qs_lex.specs.Grammar.{opening, comma, part}
-use Rattle.qs_pattern.specs.Patterns.{one_pattern, patterns, no_pattern}
+use Rattle.qs_pattern.specs.Patterns.{patterns, no_pattern}
+use Rattle.qs_pattern.specs.working.Patterns.{one_pattern}
 use Rattle.qs_pattern.proofs.PatternLemmas.{pattern-Node}
 use Rattle.qs_ruletext.specs.Grammar.{tree, list, item}
 use Rattle.qs_ruletext.specs.Cursors.{Ends}

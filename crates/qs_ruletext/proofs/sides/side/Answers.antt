@@ -1,6 +1,7 @@
 use Rattle.std.proofs.Common.{refl, ap, ◌∙◌, [], ◌∷◌}
 use Rattle.qs_lex.specs.Grammar.{opening, plus, part}
-use Rattle.qs_pattern.specs.Patterns.{one_pattern, patterns}
+use Rattle.qs_pattern.specs.Patterns.{patterns}
+use Rattle.qs_pattern.specs.working.Patterns.{one_pattern}
 use Rattle.qs_ruletext.specs.Grammar.{tree, side}
 use Rattle.qs_ruletext.specs.Cursors.{Ends}
 use Rattle.qs_ruletext.proofs.Tables.{hands_on}

@@ -5,7 +5,7 @@ use Rattle.qs_tree.specs.Lists.{◌∈◌}
 use Rattle.qs_tree.specs.Trees.{Tree}
 use Rattle.qs_tree.specs.Cells.{tree_of}
 use Rattle.qs_graph.proofs.Numbers.{in_at}
-use Rattle.qs_cascade.specs.Leaving.{leaving}
+use Rattle.qs_cascade.specs.working.Leaving.{leaving}
 use Rattle.qs_cascade.proofs.Findings.{true_is_not_false}
 use Rattle.qs_cascade.proofs.Following.{left_by}
 use Rattle.qs_cascade.proofs.Taken.{one_more}

@@ -2,9 +2,9 @@
 use Rattle.std.specs.Prelude.{ℕ, Bool, List, refl}
 use Rattle.std.specs.Coded.{Coded, code_by, coded×, coded_list, coded_bool, coded_ℕ}
 use Rattle.qs_graph.specs.Graphs.{QGraph}
-use Rattle.qs_graph.specs.Codes.{graph_code}
+use Rattle.qs_graph.specs.working.Codes.{graph_code}
 use Rattle.qs_firing.specs.Firings.{Firing}
-use Rattle.qs_firing.specs.Codes.{firing_code}
+use Rattle.qs_firing.specs.working.Codes.{firing_code}
 use Rattle.qs_canon.specs.Rounds.{Done, Stage}
 use Rattle.qs_canon.specs.Closures.{ClosureOf}
 

@@ -5,7 +5,7 @@ use Rattle.qs_pattern.specs.Patterns.{patterns}
 use Rattle.qs_match.specs.declared.remaining.Remaining.{Remaining}
 use Rattle.qs_match.specs.declared.remaining.Remaining.TheOpen.{Remaining-F}
 use Rattle.qs_match.specs.declared.remaining.Remaining.TheFolds.{fold-Remaining}
-use Rattle.qs_match.specs.Tasks.{Tasks}
+use Rattle.qs_match.specs.working.Tasks.{Tasks}
 
 -- The next task comes first. (One level, in which what remains behind it is seen as tasks already.)
 abbrev pub tasks_step : Remaining-F Tasks → Tasks

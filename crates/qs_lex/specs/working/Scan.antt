@@ -3,7 +3,8 @@
 use Rattle.std.specs.Prelude.{ℕ, suc, ◌+◌, ◌-◌, ◌*◌, ◌&&◌, ◌==◌, nat_le, not, List, [], ◌∷◌, length, take, drop, find, bytes_eq, slice_index, take_while, if◌then◌else◌, Option, Some, None, Result, Ok, Err, option_map}
 use Rattle.std.specs.List.{prefix_len}
 use Rattle.std.specs.Char.{is_ascii_digit}
-use Rattle.qs_lex.specs.Characters.{quote, star, dash, is_label, is_variable_letter, is_capital_or_digit, ends_line}
+use Rattle.qs_lex.specs.Characters.{quote, star, dash, is_label, is_variable_letter, ends_line}
+use Rattle.qs_lex.specs.working.Characters.{is_capital_or_digit}
 use Rattle.qs_lex.specs.Spelling.{name_of}
 use Rattle.qs_lex.specs.declared.token.Word.{Word}
 use Rattle.qs_lex.specs.declared.token.Word.TheVariants.{Systeme, Graphe, Fin, Dans, Hors, Et, Ou, Non}
