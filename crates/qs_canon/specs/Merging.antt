@@ -31,7 +31,8 @@ abbrev pub arc : ℕ → Label → ℕ → Arc
 arc a l b = record { from = a; to = b; tree = node l [] }
 
 abbrev pub done : ℕ → ℕ → ℕ → ℕ → Bool → Done
-done r k first round met = record { firing = record { rule = r; path = k ∷ []; values = [] }; first = first; round = round; met = met }
+done r k first round met =
+    record { firing = record { rule = r; path = k ∷ []; values = [] }; first = first; round = round; met = met }
 
 -- One arc A.
 abbrev pub one_arc : QGraph

@@ -1,5 +1,5 @@
--- Rounds, the closure, and the need of more firings than a limit. (That rules are applied until nothing more can be added
--- is Colmerauer's; the rounds and their order, which fix every number, are this project's own.)
+-- Rounds, the closure, and the need of more firings than a limit. (That rules are applied until nothing more can be
+-- added is Colmerauer's; the rounds and their order, which fix every number, are this project's own.)
 use Rattle.std.specs.Prelude.{ℕ, Bool, zero, suc, ◌+◌, ◌<◌, ◌≤◌, ◌≡◌, ◌⊎◌, List, [], ◌∷◌, ◌++◌, length, map}
 use Rattle.qs_tree.specs.Lists.{◌∈◌, Ascends}
 use Rattle.qs_pattern.specs.Rules.{Rule}
@@ -7,8 +7,8 @@ use Rattle.qs_graph.specs.Graphs.{QGraph}
 use Rattle.qs_firing.specs.Firings.{Firing, Fires, Before}
 use Rattle.qs_firing.specs.Adding.{adds, first_arc, meets}
 
--- A round over a graph, where some firings are done: the list, strictly ascending by key, of exactly the firings over the
--- graph that aren't done.
+-- A round over a graph, where some firings are done: the list, strictly ascending by key, of exactly the firings over
+-- the graph that aren't done.
 pub record Round (R : List Rule) (G : QGraph) (done : List Firing) (F : List Firing) : Type 0 where
   pub ascends : Ascends Before F
   pub fires : (f : Firing) → f ∈ F → Fires R G.arcs f

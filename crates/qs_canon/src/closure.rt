@@ -45,5 +45,11 @@ impl Model for Closure {
 
     ghost coded = { closure_code };
 
-    ghost view = { λ c. record { stage = record { graph = record { nodes = c.nodes; arcs = c.edges.items }; done = c.firings.items }; entry = c.entry; exit = c.exit; start = c.start } };
+    ghost view = { λ c.
+        record {
+          stage = record { graph = record { nodes = c.nodes; arcs = c.edges.items }; done = c.firings.items };
+          entry = c.entry;
+          exit = c.exit;
+          start = c.start;
+        } };
 }

@@ -27,7 +27,8 @@ IsStageEnd R G L end.Over = Needs R G L
 
 -- A graph that is left has at most 16 arcs and 16 nodes for each of L firings more than G.
 abbrev pub GrowsWithin : QGraph → ℕ → StageEnd → Type 0
-GrowsWithin G L (end.Left graph firings) = (length graph.arcs ≤ length G.arcs + 16 * L) × (graph.nodes ≤ G.nodes + 16 * L)
+GrowsWithin G L (end.Left graph firings) =
+    (length graph.arcs ≤ length G.arcs + 16 * L) × (graph.nodes ≤ G.nodes + 16 * L)
 GrowsWithin G L (end.Empty firings) = Unit {0}
 GrowsWithin G L end.Over = Unit {0}
 
@@ -37,8 +38,9 @@ IsEndNamed n (end.Left graph firings) = (arc : Arc) → arc ∈ graph.arcs → I
 IsEndNamed n (end.Empty firings) = Unit {0}
 IsEndNamed n end.Over = Unit {0}
 
--- The end has no labels but those of the graph and of the rules' right sides: where all of these are among the first n, so
--- are those in a graph that is left.
+-- The end has no labels but those of the graph and of the rules' right sides: where all of these are among the first n,
+-- so are those in a graph that is left.
 abbrev pub MakesNoLabels : List Rule → QGraph → StageEnd → Type 0
 MakesNoLabels R G e =
-    (n : ℕ) → ((rule : Rule) → rule ∈ R → ArePatternsNamed n rule.right) → ((arc : Arc) → arc ∈ G.arcs → IsNamed n arc.tree) → IsEndNamed n e
+    (n : ℕ) → ((rule : Rule) → rule ∈ R → ArePatternsNamed n rule.right)
+    → ((arc : Arc) → arc ∈ G.arcs → IsNamed n arc.tree) → IsEndNamed n e

@@ -1,6 +1,7 @@
 //! What firings add to a graph.
 
-ghost use Rattle.std.specs.Prelude.{◌≡◌, ◌<◌, ◌≤◌, ◌+◌, ◌-◌, ◌*◌, ◌^◌, ℕ, if◌then◌else◌, List, length, None, IfOk, OnOk};
+ghost use Rattle.std.specs.Prelude.{◌≡◌, ◌<◌, ◌≤◌, ◌+◌, ◌-◌, ◌*◌, ◌^◌, ℕ, if◌then◌else◌, List, length, None, IfOk};
+ghost use Rattle.std.specs.Prelude.{OnOk};
 ghost use Rattle.qs_tree.specs.Lists.{◌∈◌};
 ghost use Rattle.qs_pattern.specs.Rules.{all_unique};
 ghost use Rattle.qs_graph.specs.Graphs.{Arc, IsNode, IsPath};
@@ -66,8 +67,9 @@ fn met(unique: bool, arcs: &Arcs, from: u32, trees: &[Tree], to: u32) -> Option<
     }
 }
 
-/// Adds what one firing of the rules adds, a chain of the trees that it builds between the ends of its path; or, where it
-/// meets an arc, nothing. `unique` says whether the rules are all unique. After an error some of the chain may be there.
+/// Adds what one firing of the rules adds, a chain of the trees that it builds between the ends of its path; or, where
+/// it meets an arc, nothing. `unique` says whether the rules are all unique.
+/// After an error some of the chain may be there.
 pub fn add(
     alloc: Global,
     rules: &[Rule],
@@ -96,8 +98,8 @@ pub fn add(
     Ok(FirstArc { number, met: false })
 }
 
-/// Does the firings of a round in order. `unique` says whether the rules are all unique. After an error some of the firings
-/// may be done.
+/// Does the firings of a round in order. `unique` says whether the rules are all unique. After an error some of the
+/// firings may be done.
 pub fn do_round(
     alloc: Global,
     rules: &[Rule],
@@ -111,7 +113,8 @@ pub fn do_round(
     requires fire { (f : FiringOfRule) → f ∈ found.items → Fires rules.now arcs.old.arcs f }
     requires arcs { length arcs.old.arcs + 16 * length found.items ≤ 2 ^ 32 - 1 }
     requires nodes { arcs.old.nodes + 16 * length found.items ≤ 2 ^ 32 - 1 }
-    ensures stage { OnOk result (record { graph = arcs.new; done = done.new.items } ≡ after rules.now round (record { graph = arcs.old; done = done.old.items }) found.items) }
+    ensures stage { OnOk result (record { graph = arcs.new; done = done.new.items }
+        ≡ after rules.now round (record { graph = arcs.old; done = done.old.items }) found.items) }
     ensures arcs { OnOk result (length arcs.new.arcs ≤ length arcs.old.arcs + 16 * length found.items) }
     ensures nodes { OnOk result (arcs.new.nodes ≤ arcs.old.nodes + 16 * length found.items) }
 {

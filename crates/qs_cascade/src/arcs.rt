@@ -1,6 +1,7 @@
 //! A graph that grows, with the arcs that leave each node.
 
-ghost use Rattle.std.specs.Prelude.{◌≡◌, ◌<◌, ◌≤◌, ◌+◌, ◌-◌, ◌^◌, ◌++◌, ◌∷◌, [], ◌↔◌, length, IsTrue, IfOk, OnOk, OnErr, Some, slice_get};
+ghost use Rattle.std.specs.Prelude.{◌≡◌, ◌<◌, ◌≤◌, ◌+◌, ◌-◌, ◌^◌, ◌++◌, ◌∷◌, [], ◌↔◌, length, IsTrue, IfOk, OnOk};
+ghost use Rattle.std.specs.Prelude.{OnErr, Some, slice_get};
 ghost use Rattle.qs_tree.specs.Cells.{tree_of};
 ghost use Rattle.qs_graph.specs.Graphs.{IsNode};
 ghost use Rattle.qs_graph.specs.Chains.{with_chain};
@@ -111,8 +112,8 @@ impl Arcs {
         &self.leaving[node as usize]
     }
 
-    /// The least arc that leads from one node to another and carries this tree. It is looked for among the arcs that leave
-    /// the first node.
+    /// The least arc that leads from one node to another and carries this tree. It is looked for among the arcs that
+    /// leave the first node.
     pub fn least(&self, from: u32, to: u32, tree: TreeRef<'_>) -> Option<u32>
         requires { from ≤ self.now.nodes }
         ensures { result ≡ least_arc self.now.arcs from to (tree_of tree.entry.cells.now) }
@@ -156,8 +157,8 @@ impl Arcs {
 }
 
 impl Arcs {
-    /// A chain of the trees from one node to another, through new nodes. Each tree becomes that of its arc, and is never
-    /// copied again. After an error some of the chain may be there.
+    /// A chain of the trees from one node to another, through new nodes. Each tree becomes that of its arc, and is
+    /// never copied again. After an error some of the chain may be there.
     pub fn add_chain(&mut self, from: u32, to: u32, trees: Vec<Tree>) -> Result<(), AllocError>
         requires from { IsNode self.old from }
         requires to { IsNode self.old to }
@@ -181,7 +182,8 @@ impl Arcs {
     fn next_node(&mut self, left: usize, last: u32) -> Result<u32, AllocError>
         requires { self.old.nodes < 2 ^ 32 - 1 }
         ensures last { left ≡ 0 → IfOk result (λ n. (n ≡ last) × (self.new ≡ self.old)) }
-        ensures inner { 0 < left → IfOk result (λ n. (n ≡ self.old.nodes + 1) × (self.new ≡ record self.old { nodes = self.old.nodes + 1 })) }
+        ensures inner { 0 < left → IfOk result (λ n. (n ≡ self.old.nodes + 1)
+            × (self.new ≡ record self.old { nodes = self.old.nodes + 1 })) }
     {
         if left == 0 {
             return Ok(last);
@@ -192,7 +194,12 @@ impl Arcs {
 
     /// The closure with these firings, where the graph that it started from has this entry, this exit and so many arcs.
     pub fn into_closure(self, entry: u32, exit: u32, start: u32, firings: Vec<Placed>) -> Closure
-        ensures { result ≡ record { stage = record { graph = self; done = firings.items }; entry = entry; exit = exit; start = start } }
+        ensures { result ≡ record {
+          stage = record { graph = self; done = firings.items };
+          entry = entry;
+          exit = exit;
+          start = start;
+        } }
     {
         let nodes = self.nodes();
         let Arcs { edges, .. } = self;

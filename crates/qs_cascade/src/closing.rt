@@ -26,8 +26,8 @@ fn are_unique(rules: &[Rule]) -> bool
 }
 
 /// The closure of the rules from a graph, round by round, as the rounds are defined; or None where the rules need more
-/// firings than the limit. The limit is at least 1, and the numbers of arcs and of nodes of the graph, each with 16 times
-/// the limit, fit a `u32`.
+/// firings than the limit. The limit is at least 1, and the numbers of arcs and of nodes of the graph, each with 16
+/// times the limit, fit a `u32`.
 pub fn closure(
     alloc: Global,
     rules: &[Rule],

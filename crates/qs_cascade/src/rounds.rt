@@ -9,8 +9,8 @@ use qs_firing::Firing;
 use qs_pattern::Rule;
 use std::alloc::{AllocError, Global};
 
-/// All firings over the graph whose path has an arc of the last round, ascending; or None where there are more than there
-/// is room for. The first `old` arcs are those that stood before the last round.
+/// All firings over the graph whose path has an arc of the last round, ascending; or None where there are more than
+/// there is room for. The first `old` arcs are those that stood before the last round.
 pub fn new_firings(
     alloc: Global,
     rules: &[Rule],

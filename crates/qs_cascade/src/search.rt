@@ -1,6 +1,7 @@
 //! The new firings of one rule: those whose path has an arc of the last round.
 
-ghost use Rattle.std.specs.Prelude.{◌≡◌, ◌<◌, ◌≤◌, ◌+◌, ◌^◌, ◌++◌, ◌∷◌, ◌↔◌, ◌⊎◌, [], ℕ, List, length, IsTrue, IfOk, OnOk, slice_get, Some};
+ghost use Rattle.std.specs.Prelude.{◌≡◌, ◌<◌, ◌≤◌, ◌+◌, ◌^◌, ◌++◌, ◌∷◌, ◌↔◌, ◌⊎◌, [], ℕ, List, length, IsTrue, IfOk};
+ghost use Rattle.std.specs.Prelude.{OnOk, slice_get, Some};
 ghost use Rattle.qs_tree.specs.Lists.{◌∈◌, Ascends};
 ghost use Rattle.qs_tree.specs.Trees.{Tree};
 ghost use Rattle.qs_tree.specs.Cells.{tree_of};
@@ -20,8 +21,8 @@ use qs_pattern::{Head, Pattern, Rule, Subst, holds};
 use qs_tree::{Forest, TreeRef};
 use std::alloc::{AllocError, Global};
 
-/// Where firings are looked for: a rule and its number, the graph, the number of arcs that it had before the last round,
-/// and how many firings may be found. One more ends the search.
+/// Where firings are looked for: a rule and its number, the graph, the number of arcs that it had before the last
+/// round, and how many firings may be found. One more ends the search.
 #[derive(Clone, Copy)]
 pub struct Search<'a> {
     pub number: u32,
@@ -33,7 +34,8 @@ pub struct Search<'a> {
 
 // Whether the roots alone show that the pattern doesn't stand for the tree.
 fn refuses(pattern: &Pattern, tree: TreeRef<'_>) -> bool
-    ensures { IsTrue result → (s : Substitution) → inst s (one_pattern pattern.now) ≡ tree_of tree.entry.cells.now ∷ [] → ⊥ }
+    ensures { IsTrue result → (s : Substitution) → inst s (one_pattern pattern.now) ≡ tree_of tree.entry.cells.now ∷ []
+        → ⊥ }
 {
     match pattern {
         Pattern::Node { head, kids } => {
@@ -95,8 +97,10 @@ fn add_matches(
     matches: Vec<Subst>,
     found: &mut Vec<Firing>,
 ) -> Result<(), AllocError>
-    requires { (trees : List Tree) × ((s : Substitution) → s ∈ matches.items → IsMatch search.now.rule.now.left trees s) }
-    ensures { OnOk result ((those : List Substitution) × AreThose (HoldsIfGiven search.now.rule.now.condition) matches.items those × (found.new.items ≡ found.old.items ++ firings_of search.now.number path.now those)) }
+    requires { (trees : List Tree)
+        × ((s : Substitution) → s ∈ matches.items → IsMatch search.now.rule.now.left trees s) }
+    ensures { OnOk result ((those : List Substitution) × AreThose (HoldsIfGiven search.now.rule.now.condition)
+        matches.items those × (found.new.items ≡ found.old.items ++ firings_of search.now.number path.now those)) }
 {
     for subst in matches {
         if !allows(alloc, search.rule, &subst)? {
@@ -119,8 +123,10 @@ fn matches_on_path(
     path: &[u32],
 ) -> Result<Vec<Subst>, AllocError>
     requires { (a : ℕ) × (b : ℕ) × Leads search.now.arcs.now.arcs a path.now b }
-    ensures sound { IfOk result (λ v. (s : Substitution) → s ∈ v.items → IsMatch search.now.rule.now.left (trees_on search.now.arcs.now.arcs path.now) s) }
-    ensures all { IfOk result (λ v. (s : Substitution) → IsMatch search.now.rule.now.left (trees_on search.now.arcs.now.arcs path.now) s → s ∈ v.items) }
+    ensures sound { IfOk result (λ v. (s : Substitution) → s ∈ v.items
+        → IsMatch search.now.rule.now.left (trees_on search.now.arcs.now.arcs path.now) s) }
+    ensures all { IfOk result (λ v. (s : Substitution)
+        → IsMatch search.now.rule.now.left (trees_on search.now.arcs.now.arcs path.now) s → s ∈ v.items) }
     ensures ascending { IfOk result (λ v. Ascends LengthsBefore v.items) }
 {
     let side = search.rule.left();
@@ -141,7 +147,8 @@ fn fire(
 ) -> Result<bool, AllocError>
     requires path { (a : ℕ) × (b : ℕ) × IsPath search.now.arcs.now.arcs a path.now b }
     requires long { length path.now ≡ count search.now.rule.now.left }
-    ensures { IfOk result (λ complete. Finds (HasPath search.now.number search.now.rule.now search.now.arcs.now.arcs path.now) found.old.items found.new.items search.now.room complete) }
+    ensures { IfOk result (λ complete. Finds (HasPath search.now.number search.now.rule.now search.now.arcs.now.arcs
+        path.now) found.old.items found.new.items search.now.room complete) }
 {
     let matches = matches_on_path(alloc, search, path)?;
     add_matches(alloc, search, path, matches, found)?;
@@ -161,7 +168,8 @@ fn extend(
     requires node { IsNode search.now.arcs.now at }
     requires short { length path.now ≤ count search.now.rule.now.left }
     requires new { IsTrue new ↔ IsNewPath search.now.old path.now }
-    ensures { IfOk result (λ complete. Finds (Begins search.now.number search.now.rule.now search.now.arcs.now.arcs search.now.old path.now) found.old.items found.new.items search.now.room complete) }
+    ensures { IfOk result (λ complete. Finds (Begins search.now.number search.now.rule.now search.now.arcs.now.arcs
+        search.now.old path.now) found.old.items found.new.items search.now.room complete) }
 {
     let Some(pattern) = search.rule.left().get(path.len()) else {
         return if new {
@@ -198,7 +206,8 @@ pub fn find_firings(
     search: &Search<'_>,
     found: &mut Vec<Firing>,
 ) -> Result<bool, AllocError>
-    ensures { IfOk result (λ complete. Finds (Begins search.now.number search.now.rule.now search.now.arcs.now.arcs search.now.old []) found.old.items found.new.items search.now.room complete) }
+    ensures { IfOk result (λ complete. Finds (Begins search.now.number search.now.rule.now search.now.arcs.now.arcs
+        search.now.old []) found.old.items found.new.items search.now.room complete) }
 {
     let left = search.rule.left();
     let Some(pattern) = left.first() else {

@@ -1,5 +1,6 @@
--- Other numbers for the labels. A label is kept as the number of its text, so that which number it has tells only where its
--- text stands in a list. Here each kind of thing that has labels is written with other numbers for them. (This project.)
+-- Other numbers for the labels. A label is kept as the number of its text, so that which number it has tells only where
+-- its text stands in a list. Here each kind of thing that has labels is written with other numbers for them.
+-- (This project.)
 use Rattle.std.specs.Prelude.{ℕ, ◌≡◌, map}
 use Rattle.std.specs.Option.{option_map}
 use Rattle.qs_tree.specs.declared.cell.Label.{Label}
@@ -7,13 +8,14 @@ use Rattle.qs_tree.specs.Trees.{Forest, no_tree, first_tree, Tree}
 use Rattle.qs_pattern.specs.declared.pattern.Head.{Head}
 use Rattle.qs_pattern.specs.declared.pattern.Head.TheVariants as head
 use Rattle.qs_pattern.specs.Patterns.{Patterns, no_pattern, node_first, tree_var_first, forest_var_first}
-use Rattle.qs_pattern.specs.Conditions.{Condition, Conditions, compared, negated, combined, no_condition, condition_first}
+use Rattle.qs_pattern.specs.Conditions.{Condition, Conditions, compared, negated, combined, no_condition}
+use Rattle.qs_pattern.specs.Conditions.{condition_first}
 use Rattle.qs_pattern.specs.Rules.{Rule}
 use Rattle.qs_graph.specs.Graphs.{Arc, QGraph}
 use Rattle.qs_clean.specs.Cascades.{Left, a_graph, no_arc, over}
 
--- f gives each label a number in place of its own, and g gives its own back: no two labels get the same number, and each
--- number is some label's.
+-- f gives each label a number in place of its own, and g gives its own back: no two labels get the same number, and
+-- each number is some label's.
 pub record IsRenaming (f g : ℕ → ℕ) : Type 0 where
   pub back : (n : ℕ) → g (f n) ≡ n
   pub forth : (n : ℕ) → f (g n) ≡ n
@@ -37,7 +39,8 @@ renamed_head f (head.Var v) = head.Var v
 
 abbrev pub renamed_patterns : (ℕ → ℕ) → Patterns → Patterns
 renamed_patterns f no_pattern = no_pattern
-renamed_patterns f (node_first h kids behind) = node_first (renamed_head f h) (renamed_patterns f kids) (renamed_patterns f behind)
+renamed_patterns f (node_first h kids behind) =
+    node_first (renamed_head f h) (renamed_patterns f kids) (renamed_patterns f behind)
 renamed_patterns f (tree_var_first v behind) = tree_var_first v (renamed_patterns f behind)
 renamed_patterns f (forest_var_first v behind) = forest_var_first v (renamed_patterns f behind)
 

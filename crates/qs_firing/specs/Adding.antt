@@ -1,6 +1,7 @@
 -- What a firing adds to a graph, and which arcs are its result. (That a firing adds a path of trees beside its own is
 -- Colmerauer's, 1970; what becomes of equal arcs is this project's own.)
-use Rattle.std.specs.Prelude.{◌≡◌, ℕ, zero, suc, ◌+◌, Bool, ◌&&◌, ◌==◌, if◌then◌else◌, List, [], ◌∷◌, length, slice_get, unwrap_or, Option, Some, None, is_some}
+use Rattle.std.specs.Prelude.{◌≡◌, ℕ, zero, suc, ◌+◌, Bool, ◌&&◌, ◌==◌, if◌then◌else◌, List, [], ◌∷◌, length, slice_get}
+use Rattle.std.specs.Prelude.{unwrap_or, Option, Some, None, is_some}
 use Rattle.std.specs.Option.{option_map}
 use Rattle.qs_tree.specs.Trees.{Tree}
 use Rattle.qs_tree.specs.Sameness.{same_tree}

@@ -7,7 +7,8 @@ ghost use Rattle.qs_pattern.specs.Rules.{Rule, IsAccepted, IsUnique, AreLeftSide
 ghost use Rattle.qs_graph.specs.Graphs.{Arc, QGraph, IsPath, trees_on};
 ghost use Rattle.qs_graph.specs.Chains.{with_chain};
 ghost use Rattle.qs_firing.specs.Firings.{Firing, Fires, Before, key};
-ghost use Rattle.qs_firing.specs.Adding.{start_of, end_of, built, adds, StandsAt, from_on, result_arcs, first_arc, meets};
+ghost use Rattle.qs_firing.specs.Adding.{start_of, end_of, built, adds, StandsAt, from_on, result_arcs, first_arc};
+ghost use Rattle.qs_firing.specs.Adding.{meets};
 
 /// Keys order firings strictly and totally: of two firings one comes before the other, or their keys are equal, and not
 /// two of these at once.
@@ -18,17 +19,17 @@ pub fn order_is_strict_and_total()
     ensures apart { (f g : Firing) → Before f g → key f ≡ key g → ⊥ }
 {}
 
-/// Within one graph, firings with equal keys are equal, where the rules have every variable of a left side at a place of
-/// its class, as accepted rules have.
+/// Within one graph, firings with equal keys are equal, where the rules have every variable of a left side at a place
+/// of its class, as accepted rules have.
 pub fn one_firing()
     ensures { (R : List Rule) → AreLeftSidesInClass R → (arcs : List Arc) (f g : Firing)
         → Fires R arcs f → Fires R arcs g → key f ≡ key g → f ≡ g }
 {}
 
 /// Where the rules are all unique and a firing builds one tree, the least arc that already leads from the start of its
-/// path to the end and carries that tree is its result: it met that arc, and nothing is added. Where no such arc stands,
-/// and in all other cases, it adds the chain of the trees that it builds, and the arcs of that chain are its result. The
-/// first arc of a result, and whether it was met, give the whole result.
+/// path to the end and carries that tree is its result: it met that arc, and nothing is added. Where no such arc
+/// stands, and in all other cases, it adds the chain of the trees that it builds, and the arcs of that chain are its
+/// result. The first arc of a result, and whether it was met, give the whole result.
 pub fn what_is_added()
     ensures met { (R : List Rule) (G : QGraph) (f : Firing) (t : Tree) (l : ℕ) → IsUnique R → built R f ≡ t ∷ []
         → StandsAt G f t l → ((k : ℕ) → StandsAt G f t k → l ≤ k)

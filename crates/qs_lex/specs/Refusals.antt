@@ -8,7 +8,10 @@ use Rattle.qs_lex.specs.declared.refusal.Refusal.{Refusal}
 use Rattle.qs_lex.specs.declared.refusal.LexEnd.{LexEnd}
 use Rattle.qs_lex.specs.declared.refusal.LexEnd.TheVariants.{Refused, Memory}
 use Rattle.qs_lex.specs.declared.refusal.Cause.{Cause}
-use Rattle.qs_lex.specs.declared.refusal.Cause.TheVariants.{NotUtf8, BadCharacter, OpenQuote, BadWord, BadVariable, TooDeep, Syntax, TooManySystems, SideTooLong, TooManyCells, TooManyVariables, Unbound, TooManyArcs, Cycle, Entries, Exits}
+use Rattle.qs_lex.specs.declared.refusal.Cause.TheVariants.{NotUtf8, BadCharacter, OpenQuote, BadWord, BadVariable}
+use Rattle.qs_lex.specs.declared.refusal.Cause.TheVariants.{TooDeep, Syntax, TooManySystems, SideTooLong, TooManyCells}
+use Rattle.qs_lex.specs.declared.refusal.Cause.TheVariants.{TooManyVariables, Unbound, TooManyArcs, Cycle, Entries}
+use Rattle.qs_lex.specs.declared.refusal.Cause.TheVariants.{Exits}
 
 -- the name by which a cause is told
 abbrev pub cause_name : Cause → List ℕ
@@ -29,8 +32,8 @@ cause_name Cycle = codes "Cycle"
 cause_name Entries = codes "Entries"
 cause_name Exits = codes "Exits"
 
--- a fault is a byte of the text and a cause, and this is what a refusal tells of it: the line and the column of the byte, and
--- the cause
+-- a fault is a byte of the text and a cause, and this is what a refusal tells of it: the line and the column of the
+-- byte, and the cause
 pub record Tells (text : List ℕ) (byte : ℕ) (cause : Cause) (refusal : Refusal) : Type 0 where
   pub line : refusal.line ≡ line_of text byte
   pub column : refusal.column ≡ column_of text byte
@@ -51,7 +54,8 @@ pub record IsFaulty (text : List ℕ) (place : ℕ) : Type 0 where
 -- the cause of a fault goes by the first character at its place. A label character begins a bare label wherever no star
 -- follows the run, so a fault there is of a variable.
 abbrev pub cause_at : ℕ → Cause
-cause_at b = if is_label b then BadVariable else (if b == quote then OpenQuote else (if b == dash then BadWord else BadCharacter))
+cause_at b = if is_label b then BadVariable
+    else (if b == quote then OpenQuote else (if b == dash then BadWord else BadCharacter))
 
 -- the first faulty place of a text, and its cause: tokens lead to it
 pub record IsFirstFault (text : List ℕ) (place : ℕ) (cause : Cause) : Type 0 where

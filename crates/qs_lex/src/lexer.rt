@@ -34,8 +34,8 @@ fn token_at(bytes: &[u8], at: usize) -> Result<Token, Cause>
 
 /// The tokens of the text, which has at most 4,194,304 bytes. Their spans ascend and begin and end between characters.
 ///
-/// `Refused` comes exactly where the text has a faulty place, with the first one and its cause. `Memory` may come for any
-/// text.
+/// `Refused` comes exactly where the text has a faulty place, with the first one and its cause. `Memory` may come for
+/// any text.
 pub fn tokens(alloc: Global, text: &str) -> Result<Vec<Token>, LexEnd>
     requires { length text.now ≤ 4194304 }
 

@@ -82,8 +82,8 @@ impl Refusal {
     ghost use Rattle.std.specs.Prelude.{◌≤◌, length, IsCharBoundary};
     ghost use Rattle.qs_lex.specs.Refusals.{Tells};
 
-    /// What is told of a fault at this byte of the text, of this cause. The byte is between characters, and the text has at
-    /// most 4,194,304 bytes. It takes no memory.
+    /// What is told of a fault at this byte of the text, of this cause. The byte is between characters, and the text
+    /// has at most 4,194,304 bytes. It takes no memory.
     pub fn at(text: &str, byte: u32, cause: Cause) -> Refusal
         requires border { IsCharBoundary text.now byte }
         requires short { length text.now ≤ 4194304 }

@@ -1,6 +1,6 @@
 //! The search for matches: depth first over the labels and variables of the patterns, at every depth. It recurses over
-//! them, and never over the depth or the length of the trees. What it bound and what it has still to match lies borrowed
-//! in the frames of the recursion, so that only finished substitutions take memory.
+//! them, and never over the depth or the length of the trees. What it bound and what it has still to match lies
+//! borrowed in the frames of the recursion, so that only finished substitutions take memory.
 
 ghost use Rattle.std.specs.Prelude.{◌≡◌, ◌++◌, ◌∷◌, [], IfOk, OnOk, MatchOption, IsTrue, ◌↔◌};
 ghost use Rattle.qs_tree.specs.Cells.{trees_of};
@@ -21,13 +21,15 @@ use crate::state::State;
 use qs_pattern::{Head, Pattern, Subst, Var};
 use std::alloc::{AllocError, Global};
 
-/// Appends each substitution that extends the state's bindings, and under which its side stands for its trees and all that
-/// remains for its trees. After an error some of them may have been appended.
+/// Appends each substitution that extends the state's bindings, and under which its side stands for its trees and all
+/// that remains for its trees. After an error some of them may have been appended.
 #[cycle(search)]
 pub fn search(alloc: Global, state: &State<'_>, found: &mut Vec<Subst>) -> Result<(), AllocError>
-    requires in_class { IsInClass ((patterns state.now.side.now, trees_of state.now.trees.cells.now) ∷ tasks_of state.now.remaining.now) }
+    requires in_class { IsInClass ((patterns state.now.side.now, trees_of state.now.trees.cells.now)
+        ∷ tasks_of state.now.remaining.now) }
     requires substitution { IsSubstitution (substitution_of state.now.bindings.now) }
-    ensures { OnOk result (Appends ((patterns state.now.side.now, trees_of state.now.trees.cells.now) ∷ tasks_of state.now.remaining.now) (substitution_of state.now.bindings.now) found.old.items found.new.items) }
+    ensures { OnOk result (Appends ((patterns state.now.side.now, trees_of state.now.trees.cells.now)
+        ∷ tasks_of state.now.remaining.now) (substitution_of state.now.bindings.now) found.old.items found.new.items) }
 {
     match state.side {
         [] => search_remaining(alloc, state, found),
@@ -45,7 +47,8 @@ pub fn search(alloc: Global, state: &State<'_>, found: &mut Vec<Subst>) -> Resul
     }
 }
 
-/// No pattern is left of this list: where no tree is left either, what remains is next. The state's side isn't looked at.
+/// No pattern is left of this list: where no tree is left either, what remains is next.
+/// The state's side isn't looked at.
 #[cycle(search)]
 fn search_remaining(
     alloc: Global,
@@ -54,7 +57,8 @@ fn search_remaining(
 ) -> Result<(), AllocError>
     requires in_class { IsInClass (tasks_of state.now.remaining.now) }
     requires substitution { IsSubstitution (substitution_of state.now.bindings.now) }
-    ensures { OnOk result (Appends ((no_pattern, trees_of state.now.trees.cells.now) ∷ tasks_of state.now.remaining.now) (substitution_of state.now.bindings.now) found.old.items found.new.items) }
+    ensures { OnOk result (Appends ((no_pattern, trees_of state.now.trees.cells.now) ∷ tasks_of state.now.remaining.now)
+        (substitution_of state.now.bindings.now) found.old.items found.new.items) }
 {
     if state.trees.first_rest().is_some() {
         return Ok(());
@@ -80,7 +84,8 @@ fn search_remaining(
     }
 }
 
-/// A node is the first pattern, before those of the state: its patterns are matched with the subtrees of the first tree.
+/// A node is the first pattern, before those of the state:
+/// its patterns are matched with the subtrees of the first tree.
 #[cycle(search)]
 fn search_node(
     alloc: Global,
@@ -89,9 +94,14 @@ fn search_node(
     state: &State<'_>,
     found: &mut Vec<Subst>,
 ) -> Result<(), AllocError>
-    requires in_class { IsInClass ((node_first head (patterns kids.now) (patterns state.now.side.now), trees_of state.now.trees.cells.now) ∷ tasks_of state.now.remaining.now) }
+    requires in_class { IsInClass ((
+      node_first head (patterns kids.now) (patterns state.now.side.now),
+      trees_of state.now.trees.cells.now,
+    ) ∷ tasks_of state.now.remaining.now) }
     requires substitution { IsSubstitution (substitution_of state.now.bindings.now) }
-    ensures { OnOk result (Appends ((node_first head (patterns kids.now) (patterns state.now.side.now), trees_of state.now.trees.cells.now) ∷ tasks_of state.now.remaining.now) (substitution_of state.now.bindings.now) found.old.items found.new.items) }
+    ensures { OnOk result (Appends
+        ((node_first head (patterns kids.now) (patterns state.now.side.now), trees_of state.now.trees.cells.now)
+        ∷ tasks_of state.now.remaining.now) (substitution_of state.now.bindings.now) found.old.items found.new.items) }
 {
     let Some((tree, behind)) = state.trees.first_rest() else {
         return Ok(());
@@ -128,9 +138,14 @@ fn search_tree(
     state: &State<'_>,
     found: &mut Vec<Subst>,
 ) -> Result<(), AllocError>
-    requires in_class { IsInClass ((tree_var_first var (patterns state.now.side.now), trees_of state.now.trees.cells.now) ∷ tasks_of state.now.remaining.now) }
+    requires in_class { IsInClass ((
+      tree_var_first var (patterns state.now.side.now),
+      trees_of state.now.trees.cells.now,
+    ) ∷ tasks_of state.now.remaining.now) }
     requires substitution { IsSubstitution (substitution_of state.now.bindings.now) }
-    ensures { OnOk result (Appends ((tree_var_first var (patterns state.now.side.now), trees_of state.now.trees.cells.now) ∷ tasks_of state.now.remaining.now) (substitution_of state.now.bindings.now) found.old.items found.new.items) }
+    ensures { OnOk result
+        (Appends ((tree_var_first var (patterns state.now.side.now), trees_of state.now.trees.cells.now)
+        ∷ tasks_of state.now.remaining.now) (substitution_of state.now.bindings.now) found.old.items found.new.items) }
 {
     let Some((tree, behind)) = state.trees.first_rest() else {
         return Ok(());
@@ -142,8 +157,8 @@ fn search_tree(
     search_with(alloc, var, ValueRef::Tree(tree), &after, found)
 }
 
-/// A forest variable is the first pattern, before those of the state: it takes each list at the head of the trees that is of
-/// a length that fits, shortest first.
+/// A forest variable is the first pattern, before those of the state: it takes each list at the head of the trees that
+/// is of a length that fits, shortest first.
 #[cycle(search)]
 fn search_forest(
     alloc: Global,
@@ -151,9 +166,14 @@ fn search_forest(
     state: &State<'_>,
     found: &mut Vec<Subst>,
 ) -> Result<(), AllocError>
-    requires in_class { IsInClass ((forest_var_first var (patterns state.now.side.now), trees_of state.now.trees.cells.now) ∷ tasks_of state.now.remaining.now) }
+    requires in_class { IsInClass ((
+      forest_var_first var (patterns state.now.side.now),
+      trees_of state.now.trees.cells.now,
+    ) ∷ tasks_of state.now.remaining.now) }
     requires substitution { IsSubstitution (substitution_of state.now.bindings.now) }
-    ensures { OnOk result (Appends ((forest_var_first var (patterns state.now.side.now), trees_of state.now.trees.cells.now) ∷ tasks_of state.now.remaining.now) (substitution_of state.now.bindings.now) found.old.items found.new.items) }
+    ensures { OnOk result
+        (Appends ((forest_var_first var (patterns state.now.side.now), trees_of state.now.trees.cells.now)
+        ∷ tasks_of state.now.remaining.now) (substitution_of state.now.bindings.now) found.old.items found.new.items) }
 {
     let Some(lengths) = lengths_of(var, state.side, state.trees, state.bindings) else {
         return Ok(());
@@ -189,10 +209,13 @@ fn search_with(
     state: &State<'_>,
     found: &mut Vec<Subst>,
 ) -> Result<(), AllocError>
-    requires in_class { IsInClass ((patterns state.now.side.now, trees_of state.now.trees.cells.now) ∷ tasks_of state.now.remaining.now) }
+    requires in_class { IsInClass ((patterns state.now.side.now, trees_of state.now.trees.cells.now)
+        ∷ tasks_of state.now.remaining.now) }
     requires substitution { IsSubstitution (substitution_of state.now.bindings.now) }
     requires class { IsOfClass (var, value_of_ref value) }
-    ensures { OnOk result (AppendsWith ((patterns state.now.side.now, trees_of state.now.trees.cells.now) ∷ tasks_of state.now.remaining.now) (substitution_of state.now.bindings.now) var (value_of_ref value.entry) found.old.items found.new.items) }
+    ensures { OnOk result (AppendsWith
+        ((patterns state.now.side.now, trees_of state.now.trees.cells.now) ∷ tasks_of state.now.remaining.now)
+        (substitution_of state.now.bindings.now) var (value_of_ref value.entry) found.old.items found.new.items) }
 {
     match find(state.bindings, var) {
         Some(known) => {

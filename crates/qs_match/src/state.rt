@@ -5,8 +5,8 @@ use crate::remaining::Remaining;
 use qs_pattern::Pattern;
 use qs_tree::ForestRef;
 
-/// A state of the search: the patterns and the trees that are to be matched next, what remains behind them, and what the
-/// variables stand for that were met so far.
+/// A state of the search: the patterns and the trees that are to be matched next, what remains behind them, and what
+/// the variables stand for that were met so far.
 #[derive(Clone, Copy)]
 pub struct State<'a> {
     pub side: &'a [Pattern],

@@ -3,7 +3,8 @@ use Rattle.std.specs.Prelude.{ℕ, ◌+◌, ◌≤◌, ◌⊎◌, List, [], ◌+
 use Rattle.qs_tree.specs.Lists.{◌∈◌}
 use Rattle.qs_tree.specs.Trees.{Tree}
 use Rattle.qs_pattern.specs.declared.variable.Var.{Var}
-use Rattle.qs_pattern.specs.declared.condition.Cond.{Cond, Within, Outside, Not', All', Any', Row_of-Cond, end_of-Cond, more_of-Cond}
+use Rattle.qs_pattern.specs.declared.condition.Cond.{Cond, Within, Outside, Not', All', Any', Row_of-Cond, end_of-Cond}
+use Rattle.qs_pattern.specs.declared.condition.Cond.{more_of-Cond}
 use Rattle.qs_pattern.specs.Patterns.{Patterns, patterns, cells, variables_in, AreInClass}
 use Rattle.qs_pattern.specs.Substitutions.{Substitution}
 use Rattle.qs_pattern.specs.Instances.{inst, IsCovered}

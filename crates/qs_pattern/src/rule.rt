@@ -39,9 +39,19 @@ impl Model for Rule {
 
     ghost coded = { rule_code };
 
-    ghost view = { λ r. record { left = patterns r.left.items; right = patterns r.right.items; condition = option_map condition_of r.condition; unique = r.unique } };
+    ghost view = { λ r. record {
+      left = patterns r.left.items;
+      right = patterns r.right.items;
+      condition = option_map condition_of r.condition;
+      unique = r.unique;
+    } };
 
-    ghost invariant = { λ r. IsAccepted (record { left = patterns r.left.items; right = patterns r.right.items; condition = option_map condition_of r.condition; unique = r.unique }) };
+    ghost invariant = { λ r. IsAccepted (record {
+      left = patterns r.left.items;
+      right = patterns r.right.items;
+      condition = option_map condition_of r.condition;
+      unique = r.unique;
+    }) };
 }
 
 impl Rule {
@@ -54,8 +64,18 @@ impl Rule {
         condition: Option<Cond>,
         unique: bool,
     ) -> Rule
-        requires { IsAccepted (record { left = patterns left.items; right = patterns right.items; condition = option_map condition_of condition; unique = unique }) }
-        ensures { result ≡ record { left = patterns left.items; right = patterns right.items; condition = option_map condition_of condition; unique = unique } }
+        requires { IsAccepted (record {
+          left = patterns left.items;
+          right = patterns right.items;
+          condition = option_map condition_of condition;
+          unique = unique;
+        }) }
+        ensures { result ≡ record {
+          left = patterns left.items;
+          right = patterns right.items;
+          condition = option_map condition_of condition;
+          unique = unique;
+        } }
     {
         Rule {
             alloc,

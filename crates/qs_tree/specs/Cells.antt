@@ -31,7 +31,8 @@ back zero g = g
 back (suc n) no_tree = no_tree
 back (suc n) (first_tree l k r) = back (n - size k) r
 
--- a tree with this label and this number of nodes, whose subtrees are the first of these trees, and the others behind it
+-- a tree with this label and this number of nodes, whose subtrees are the first of these trees,
+-- and the others behind it
 abbrev pub gather : Label → ℕ → Forest → Forest
 gather l zero g = first_tree l no_tree g
 gather l (suc n) g = first_tree l (front n g) (back n g)

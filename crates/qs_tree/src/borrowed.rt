@@ -50,7 +50,8 @@ impl<'a> ForestRef<'a> {
     /// The first tree and the list of the others; None exactly where the list is empty.
     pub fn first_rest(self) -> Option<(TreeRef<'a>, ForestRef<'a>)>
         ensures none { IsNone result ↔ (trees_of self.entry.cells.now ≡ []) }
-        ensures some { IfSome result (λ p. trees_of self.entry.cells.now ≡ tree_of p.0.cells.now ∷ trees_of p.1.cells.now) }
+        ensures some { IfSome result (λ p. trees_of self.entry.cells.now
+            ≡ tree_of p.0.cells.now ∷ trees_of p.1.cells.now) }
     {
         let first = self.cells.first()?;
         let (tree, rest) = self.cells.split_at(first.extent);

@@ -6,8 +6,8 @@ use Rattle.qs_graph.specs.Graphs.{QGraph, IsValid}
 use Rattle.qs_canon.specs.Rounds.{Needs}
 use Rattle.qs_canon.specs.Closures.{ClosureOf, IsClosure}
 
--- The rules are accepted ones and G is valid, and c is their closure from G, with at most L firings, and with at most 16
--- arcs for each of them behind those of G.
+-- The rules are accepted ones and G is valid, and c is their closure from G, with at most L firings, and with at most
+-- 16 arcs for each of them behind those of G.
 pub record ClosesSoon (R : List Rule) (G : QGraph) (L : ℕ) (c : ClosureOf) : Type 0 where
   pub accepted : (rule : Rule) → rule ∈ R → IsAccepted rule
   pub valid : IsValid G

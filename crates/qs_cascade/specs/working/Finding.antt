@@ -57,7 +57,8 @@ pub record Begins (number : ℕ) (rule : Rule) (arcs : List Arc) (old : ℕ) (fr
   pub path_is : f.path ≡ front ++ rest
 
 -- f is a new firing of the rule whose path goes on behind these arcs with one of the next ones.
-pub record GoesOn (number : ℕ) (rule : Rule) (arcs : List Arc) (old : ℕ) (front : List ℕ) (nexts : List ℕ) (f : Firing) : Type 0 where
+pub record GoesOn (number : ℕ) (rule : Rule) (arcs : List Arc) (old : ℕ) (front : List ℕ) (nexts : List ℕ)
+    (f : Firing) : Type 0 where
   pub by : FiresBy number rule arcs f
   pub new : IsNewPath old f.path
   pub next : ℕ

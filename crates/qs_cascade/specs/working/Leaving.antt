@@ -18,5 +18,6 @@ pub record IsIndexed (arcs : List Arc) (lists : List (Vec ℕ Global)) : Type 0 
   pub some : 0 < length lists
   pub nodes_few : length lists ≤ 2 ^ 32
   pub arcs_few : length arcs < 2 ^ 32
-  pub in_range : (arc : Arc) → arc ∈ arcs → (1 ≤ arc.from) × (arc.from < length lists) × (1 ≤ arc.to) × (arc.to < length lists)
+  pub in_range : (arc : Arc) → arc ∈ arcs
+      → (1 ≤ arc.from) × (arc.from < length lists) × (1 ≤ arc.to) × (arc.to < length lists)
   pub each : (n : ℕ) (list : Vec ℕ Global) → slice_get lists n ≡ Some list → list.items ≡ leaving arcs n

@@ -1,5 +1,6 @@
 -- What the steps of cleaning make of arcs and of marks.
-use Rattle.std.specs.Prelude.{ℕ, ◌+◌, ◌≡◌, ◌↔◌, Bool, true, false, ◌&&◌, not, if◌then◌else◌, List, [], ◌∷◌, ◌++◌, length, map, slice_index, slice_index_or}
+use Rattle.std.specs.Prelude.{ℕ, ◌+◌, ◌≡◌, ◌↔◌, Bool, true, false, ◌&&◌, not, if◌then◌else◌, List, [], ◌∷◌, ◌++◌}
+use Rattle.std.specs.Prelude.{length, map, slice_index, slice_index_or}
 use Rattle.qs_tree.specs.Lists.{◌∈◌}
 use Rattle.qs_graph.specs.Graphs.{Arc}
 use Rattle.qs_canon.specs.Rounds.{Stage, Done}
@@ -23,19 +24,21 @@ each_pair make (x ∷ xs) (y ∷ ys) = make x y ++ each_pair make xs ys
 abbrev pub free_link : Arc → Bool → List Link
 free_link arc denoted = if denoted then [] else record { from = arc.from; to = arc.to } ∷ []
 
--- The marks of a stage between two nodes: the arcs that are denoted, the nodes that undenoted arcs reach from the entry, and
--- those from which they reach the exit.
+-- The marks of a stage between two nodes: the arcs that are denoted, the nodes that undenoted arcs reach from the
+-- entry, and those from which they reach the exit.
 pub record AreMarks (S : Stage) (entry exit : ℕ) (denoted from_entry to_exit : List Bool) : Type 0 where
   pub denoted_len : length denoted ≡ length S.graph.arcs
   pub from_entry_len : length from_entry ≡ S.graph.nodes + 1
   pub to_exit_len : length to_exit ≡ S.graph.nodes + 1
   pub denoted_are : (k : ℕ) → IsMarked denoted k ↔ IsDenoted S k
   pub from_entry_are : (n : ℕ) → IsMarked from_entry n ↔ Reaches (each_pair free_link S.graph.arcs denoted) entry n
-  pub to_exit_are : (n : ℕ) → IsMarked to_exit n ↔ Reaches (map turned (each_pair free_link S.graph.arcs denoted)) exit n
+  pub to_exit_are : (n : ℕ)
+      → IsMarked to_exit n ↔ Reaches (map turned (each_pair free_link S.graph.arcs denoted)) exit n
 
 -- An arc is kept where it is not denoted, its start is reached from the entry, and the exit is reached from its end.
 abbrev pub keeps : List Bool → List Bool → Arc → Bool → Bool
-keeps from_entry to_exit arc denoted = not denoted && (slice_index_or from_entry arc.from false && slice_index_or to_exit arc.to false)
+keeps from_entry to_exit arc denoted =
+    not denoted && (slice_index_or from_entry arc.from false && slice_index_or to_exit arc.to false)
 
 abbrev pub keeps_mark : List Bool → List Bool → Arc → Bool → List Bool
 keeps_mark from_entry to_exit arc denoted = keeps from_entry to_exit arc denoted ∷ []
@@ -58,7 +61,8 @@ numbering c (false ∷ marks) = 0 ∷ numbering c marks
 
 -- An arc that is kept, with the new numbers of its ends.
 abbrev pub numbered_arc : List ℕ → Arc → Arc
-numbered_arc numbers arc = record { from = slice_index numbers arc.from; to = slice_index numbers arc.to; tree = arc.tree }
+numbered_arc numbers arc =
+    record { from = slice_index numbers arc.from; to = slice_index numbers arc.to; tree = arc.tree }
 
 abbrev pub if_kept : List ℕ → Arc → Bool → List Arc
 if_kept numbers arc kept = if kept then numbered_arc numbers arc ∷ [] else []

@@ -1,6 +1,7 @@
 -- Counts of arcs into nodes, and nodes taken one by one. No reader needs to believe what stands here: the contracts of
 -- public functions never cite it.
-use Rattle.std.specs.Prelude.{ℕ, ◌≡◌, ◌≤◌, ◌+◌, ◌↔◌, ◌==◌, if◌then◌else◌, Bool, true, false, List, [], ◌∷◌, ◌++◌, length, Option, Some, None, slice_index_or}
+use Rattle.std.specs.Prelude.{ℕ, ◌≡◌, ◌≤◌, ◌+◌, ◌↔◌, ◌==◌, if◌then◌else◌, Bool, true, false, List, [], ◌∷◌, ◌++◌}
+use Rattle.std.specs.Prelude.{length, Option, Some, None, slice_index_or}
 use Rattle.qs_tree.specs.Lists.{◌∈◌}
 use Rattle.qs_graph.specs.Graphs.{Arc, ExactlyOne}
 
@@ -40,8 +41,8 @@ abbrev pub targets_from : List Arc → ℕ → List ℕ
 targets_from [] n = []
 targets_from (arc ∷ arcs) n = if arc.from == n then arc.to ∷ targets_from arcs n else targets_from arcs n
 
--- The counts are lowered, for each number by how often it is a target, and the targets whose counts come to 0 stand behind
--- the order.
+-- The counts are lowered, for each number by how often it is a target, and the targets whose counts come to 0 stand
+-- behind the order.
 pub record IsLowered (targets counts new_counts order new_order : List ℕ) : Type 0 where
   pub len : length new_counts ≡ length counts
   pub lower : (n : ℕ) → slice_index_or counts n 0 ≡ slice_index_or new_counts n 0 + times n targets

@@ -36,7 +36,8 @@ Refuse table fs (s ∷ ss) = (starts table fs s ≡ false) × Refuse table fs ss
 -- the tokens begin these forms, one behind the other
 abbrev pub BeginAll : {Part : Type 0} → Grammar Part → List (Form Part) → List Token → Type 0
 BeginAll line [] ts = ts ≡ []
-BeginAll line (f ∷ fs) ts = Begins line f ts ⊎ ((middle : List Token) × IsWhole line f ts middle × BeginAll line fs middle)
+BeginAll line (f ∷ fs) ts =
+    Begins line f ts ⊎ ((middle : List Token) × IsWhole line f ts middle × BeginAll line fs middle)
 
 -- the tokens are these forms whole, one behind the other
 abbrev pub AllWhole : {Part : Type 0} → Grammar Part → List (Form Part) → List Token → Type 0
@@ -49,12 +50,14 @@ may_end [] = true
 may_end (f ∷ fs) = if nullable f then may_end fs else false
 
 -- a reader that expects `before` at these tokens has gone on, without a choice, to expect `behind` at the rest: however
--- much of the rest is taken, it begins with what was passed the ones exactly where it begins the others; and where all of
--- the tokens are the ones whole, all of the rest is the others
-pub record Leads {Part : Type 0} (line : Grammar Part) (before : List (Form Part)) (tokens : List Token) (behind : List (Form Part)) (rest : List Token) : Type 0 where
+-- much of the rest is taken, it begins with what was passed the ones exactly where it begins the others; and where all
+-- of the tokens are the ones whole, all of the rest is the others
+pub record Leads {Part : Type 0} (line : Grammar Part) (before : List (Form Part)) (tokens : List Token)
+    (behind : List (Form Part)) (rest : List Token) : Type 0 where
   pub passed : List Token
   pub are : tokens ≡ passed ++ rest
-  pub same : (front more : List Token) → rest ≡ front ++ more → BeginAll line before (passed ++ front) ↔ BeginAll line behind front
+  pub same : (front more : List Token) → rest ≡ front ++ more
+      → BeginAll line before (passed ++ front) ↔ BeginAll line behind front
   pub whole : AllWhole line before tokens → AllWhole line behind rest
 
 -- with the next token, where there is one, the tokens don't begin the forms
@@ -62,9 +65,10 @@ abbrev pub NotWithNext : {Part : Type 0} → Grammar Part → List (Form Part) �
 NotWithNext line forms passed [] = Unit {0}
 NotWithNext line forms passed (t ∷ ts) = BeginAll line forms (passed ++ t ∷ []) → ⊥
 
--- no reader that expects these forms gets past the place with so many tokens left: the tokens before it begin them; with the
--- token there, where there is one, they don't; and where there is none, they are not the forms whole
-pub record Stops {Part : Type 0} (line : Grammar Part) (forms : List (Form Part)) (tokens : List Token) (left : ℕ) : Type 0 where
+-- no reader that expects these forms gets past the place with so many tokens left: the tokens before it begin them;
+-- with the token there, where there is one, they don't; and where there is none, they are not the forms whole
+pub record Stops {Part : Type 0} (line : Grammar Part) (forms : List (Form Part)) (tokens : List Token)
+    (left : ℕ) : Type 0 where
   pub passed : List Token
   pub rest : List Token
   pub are : tokens ≡ passed ++ rest
@@ -77,7 +81,8 @@ pub record Stops {Part : Type 0} (line : Grammar Part) (forms : List (Form Part)
 abbrev pub goes_on : {Part : Type 0} → (Part → Sort → Bool) → (Part → Sort → Bool) → Form Part → Sort → Bool
 goes_on table more (one s) k = false
 goes_on table more (part p) k = more p k
-goes_on table more (f · g) k = if nullable g then (first table g k || goes_on table more f k) || goes_on table more g k else goes_on table more g k
+goes_on table more (f · g) k =
+    if nullable g then (first table g k || goes_on table more f k) || goes_on table more g k else goes_on table more g k
 goes_on table more (f ∣ g) k = goes_on table more f k || goes_on table more g k
 goes_on table more (optional f) k = first table f k || goes_on table more f k
 goes_on table more (repeated f) k = first table f k || goes_on table more f k
@@ -90,8 +95,11 @@ Apart p q = (k : Sort) → p k ≡ true → q k ≡ false
 abbrev pub IsPredictive : {Part : Type 0} → (Part → Sort → Bool) → (Part → Sort → Bool) → Form Part → Type 0
 IsPredictive table more (one s) = Unit {0}
 IsPredictive table more (part p) = Unit {0}
-IsPredictive table more (f · g) = IsPredictive table more f × IsPredictive table more g × Apart (first table g) (goes_on table more f)
+IsPredictive table more (f · g) =
+    IsPredictive table more f × IsPredictive table more g × Apart (first table g) (goes_on table more f)
 IsPredictive table more (f ∣ g) =
-    (nullable f ≡ false) × (nullable g ≡ false) × Apart (first table f) (first table g) × Apart (first table g) (first table f) × IsPredictive table more f × IsPredictive table more g
+    (nullable f ≡ false) × (nullable g ≡ false) × Apart (first table f) (first table g)
+    × Apart (first table g) (first table f) × IsPredictive table more f × IsPredictive table more g
 IsPredictive table more (optional f) = (nullable f ≡ false) × IsPredictive table more f
-IsPredictive table more (repeated f) = (nullable f ≡ false) × IsPredictive table more f × Apart (first table f) (goes_on table more f)
+IsPredictive table more (repeated f) =
+    (nullable f ≡ false) × IsPredictive table more f × Apart (first table f) (goes_on table more f)

@@ -1,6 +1,8 @@
--- Reading the token at the front of a text from the left: what the private functions of the scanner compute. The tokens of a
--- text are not defined by it; that it reads just these is proved in `Scanned`.
-use Rattle.std.specs.Prelude.{ℕ, suc, ◌+◌, ◌-◌, ◌*◌, ◌&&◌, ◌==◌, nat_le, not, List, [], ◌∷◌, length, take, drop, find, bytes_eq, slice_index, take_while, if◌then◌else◌, Option, Some, None, Result, Ok, Err, option_map}
+-- Reading the token at the front of a text from the left: what the private functions of the scanner compute. The tokens
+-- of a text are not defined by it; that it reads just these is proved in `Scanned`.
+use Rattle.std.specs.Prelude.{ℕ, suc, ◌+◌, ◌-◌, ◌*◌, ◌&&◌, ◌==◌, nat_le, not, List, [], ◌∷◌, length, take, drop, find}
+use Rattle.std.specs.Prelude.{bytes_eq, slice_index, take_while, if◌then◌else◌, Option, Some, None, Result, Ok, Err}
+use Rattle.std.specs.Prelude.{option_map}
 use Rattle.std.specs.List.{prefix_len}
 use Rattle.std.specs.Char.{is_ascii_digit}
 use Rattle.qs_lex.specs.Characters.{quote, star, dash, is_label, is_variable_letter, ends_line}
@@ -9,7 +11,8 @@ use Rattle.qs_lex.specs.Spelling.{name_of}
 use Rattle.qs_lex.specs.declared.token.Word.{Word}
 use Rattle.qs_lex.specs.declared.token.Word.TheVariants.{Systeme, Graphe, Fin, Dans, Hors, Et, Ou, Non}
 use Rattle.qs_lex.specs.declared.token.Kind.{Kind}
-use Rattle.qs_lex.specs.declared.token.Kind.TheVariants.{Bare, Quoted, Variable, Node, Word as a_word, Opening, Closing, Comma, Plus, Slash, Equals, Stop}
+use Rattle.qs_lex.specs.declared.token.Kind.TheVariants.{Bare, Quoted, Variable, Node, Word as a_word, Opening, Closing}
+use Rattle.qs_lex.specs.declared.token.Kind.TheVariants.{Comma, Plus, Slash, Equals, Stop}
 use Rattle.qs_lex.specs.declared.refusal.Cause.{Cause}
 use Rattle.qs_lex.specs.declared.refusal.Cause.TheVariants.{BadCharacter, OpenQuote, BadWord, BadVariable}
 
@@ -21,13 +24,15 @@ Found = Result (Kind × ℕ) Cause
 abbrev pub number_after : ℕ → ℕ → List ℕ → Option ℕ
 number_after most n [] = if n == 0 then None else Some n
 number_after most n (d ∷ ds) =
-    if is_ascii_digit d && (not (n == 0 && d == 48) && nat_le (n * 10 + (d - 48)) most) then number_after most (n * 10 + (d - 48)) ds else None
+    if is_ascii_digit d && (not (n == 0 && d == 48) && nat_le (n * 10 + (d - 48)) most)
+    then number_after most (n * 10 + (d - 48)) ds else None
 
 -- how many bytes a quoted label has behind its opening quote; how many behind a quote that may close it
 abbrev mutual
   pub quote_len : List ℕ → Option ℕ
   quote_len [] = None
-  quote_len (b ∷ bs) = option_map suc (if b == quote then behind_quote bs else (if ends_line b then None else quote_len bs))
+  quote_len (b ∷ bs) =
+      option_map suc (if b == quote then behind_quote bs else (if ends_line b then None else quote_len bs))
 
   pub behind_quote : List ℕ → Option ℕ
   behind_quote [] = Some 0
@@ -49,7 +54,8 @@ with_digits letter (d ∷ ds) = numbered letter (length (d ∷ ds) + 2) (number_
 
 -- the variable with this run before its '*' and these bytes behind it
 abbrev pub variable_of : List ℕ → List ℕ → Found
-variable_of (letter ∷ []) behind = if is_variable_letter letter then with_digits letter (take_while is_ascii_digit behind) else Err BadVariable
+variable_of (letter ∷ []) behind =
+    if is_variable_letter letter then with_digits letter (take_while is_ascii_digit behind) else Err BadVariable
 variable_of _ behind = Err BadVariable
 
 abbrev pub label_at : List ℕ → Found

@@ -13,8 +13,8 @@ singles (node_first h kids behind) = singles behind + 1
 singles (tree_var_first v behind) = singles behind + 1
 singles (forest_var_first v behind) = singles behind
 
--- The patterns can stand for n trees: n is at least their number without the forest variables, and just that number where
--- there is no forest variable.
+-- The patterns can stand for n trees: n is at least their number without the forest variables, and just that number
+-- where there is no forest variable.
 pub record CanFit (side : Patterns) (n : ℕ) : Type 0 where
   pub least : singles side ≤ n
   pub exact : NoForestAtTop side → singles side ≡ n

@@ -1,6 +1,6 @@
--- The middle of the proof: lists of patterns that are still to be matched, the solutions of such tasks, and what the search
--- does with them. Only clauses of the search's own functions cite this, and no public one, so that nothing that a reader
--- has to believe stands here.
+-- The middle of the proof: lists of patterns that are still to be matched, the solutions of such tasks, and what the
+-- search does with them. Only clauses of the search's own functions cite this, and no public one, so that nothing that
+-- a reader has to believe stands here.
 use Rattle.std.specs.Prelude.{Bool, true, false, if◌then◌else◌, ◌≡◌, ◌⊎◌, List, [], ◌∷◌, ◌++◌, Some, None}
 use Rattle.qs_tree.specs.Lists.{◌∈◌, Ascends}
 use Rattle.qs_tree.specs.Trees.{Tree}
@@ -94,10 +94,12 @@ pub record HasOther (s : Substitution) (v : Var) (x : Value) : Type 0 where
 
 -- The solutions in which the variable has this value were appended.
 abbrev pub AppendsWith : Tasks → Substitution → Var → Value → List Substitution → List Substitution → Type 0
-AppendsWith tasks s v x old new = ((t : Substitution) × Binds s v x t × Appends tasks t old new) ⊎ (HasOther s v x × (new ≡ old))
+AppendsWith tasks s v x old new =
+    ((t : Substitution) × Binds s v x t × Appends tasks t old new) ⊎ (HasOther s v x × (new ≡ old))
 
 -- r gives the forest variable, which stands before these patterns, this list at the head of the trees.
-pub record TakesFront (s : Substitution) (v : Var) (behind : Patterns) (ts : List Tree) (r : Substitution) (front : List Tree) : Type 0 where
+pub record TakesFront (s : Substitution) (v : Var) (behind : Patterns) (ts : List Tree) (r : Substitution)
+    (front : List Tree) : Type 0 where
   pub vs : List Var
   pub extends : Extends (v ∷ variables_before behind vs) s r
   pub is : value_of r v ≡ Some (value.Forest front)

@@ -7,7 +7,8 @@ use base.Stored.{Gv, gnil, gcons}
 use Rattle.qs_pattern.specs.contracts.variable.Var as var
 use Rattle.qs_pattern.specs.contracts.pattern.Head as head
 use Rattle.qs_pattern.specs.Patterns.{Patterns, no_pattern, node_first, tree_var_first, forest_var_first}
-use Rattle.qs_pattern.specs.Conditions.{Comparing, within, outside, Joining, all, any, Condition, Conditions, compared, negated, combined, no_condition, condition_first}
+use Rattle.qs_pattern.specs.Conditions.{Comparing, within, outside, Joining, all, any, Condition, Conditions, compared}
+use Rattle.qs_pattern.specs.Conditions.{negated, combined, no_condition, condition_first}
 use Rattle.qs_pattern.specs.Rules.{Rule, UnmarkedRule, marked, unmarked}
 
 -- Marks that differ.
@@ -22,7 +23,8 @@ third_mark = gcons gnil (gcons gnil gnil)
 
 abbrev pub patterns_tree : Patterns → Gv
 patterns_tree no_pattern = gnil
-patterns_tree (node_first h kids behind) = gcons first_mark (gcons (head.the_row.coded.code h) (gcons (patterns_tree kids) (patterns_tree behind)))
+patterns_tree (node_first h kids behind) =
+    gcons first_mark (gcons (head.the_row.coded.code h) (gcons (patterns_tree kids) (patterns_tree behind)))
 patterns_tree (tree_var_first v behind) = gcons second_mark (gcons (var.the_row.coded.code v) (patterns_tree behind))
 patterns_tree (forest_var_first v behind) = gcons third_mark (gcons (var.the_row.coded.code v) (patterns_tree behind))
 
@@ -79,7 +81,8 @@ joining_tree-one any all e = absurd cc
 
 abbrev mutual
   pub condition_tree : Condition → Gv
-  condition_tree (compared w a b) = gcons first_mark (gcons (comparing_tree w) (gcons (patterns_tree a) (patterns_tree b)))
+  condition_tree (compared w a b) =
+      gcons first_mark (gcons (comparing_tree w) (gcons (patterns_tree a) (patterns_tree b)))
   condition_tree (negated c) = gcons second_mark (condition_tree c)
   condition_tree (combined w cs) = gcons third_mark (gcons (joining_tree w) (conditions_tree cs))
 
@@ -120,8 +123,10 @@ condition_code = record { code = condition_tree; inj = condition_tree-one }
 
 abbrev pub unmarked_code : Coded UnmarkedRule
 unmarked_code =
-    code_by (Patterns × (Patterns × Option Condition)) (coded× patterns_code (coded× patterns_code (coded_option condition_code)))
+    code_by (Patterns × (Patterns × Option Condition))
+    (coded× patterns_code (coded× patterns_code (coded_option condition_code)))
     (λ r. (r.left, (r.right, r.condition))) (λ p. record { left = p.0; right = p.1.0; condition = p.1.1 }) (λ _. refl)
 
 abbrev pub rule_code : Coded Rule
-rule_code = code_by (Bool × UnmarkedRule) (coded× coded_bool unmarked_code) (λ r. (r.unique, unmarked r)) (λ p. marked p.0 p.1) (λ _. refl)
+rule_code = code_by (Bool × UnmarkedRule) (coded× coded_bool unmarked_code) (λ r. (r.unique, unmarked r))
+    (λ p. marked p.0 p.1) (λ _. refl)

@@ -11,7 +11,8 @@ use Rattle.qs_tree.specs.Cells.{cells_of, cells_of_tree, front, back, gather, fo
 pub front-join : (k h : Forest) → front (size k) (join k h) ≡ k
 front-join no_tree h = refl
 front-join (first_tree l k r) h =
-    ap (λ g. first_tree l k g) (ap (λ n. front n (join r h)) (let e : (size k + size r) - size k ≡ size r = omega arith in e) ∙ front-join r h)
+    ap (λ g. first_tree l k g) (ap (λ n. front n (join r h)) (let e : (size k + size r) - size k ≡ size r = omega arith
+    in e) ∙ front-join r h)
 
 pub back-join : (k h : Forest) → back (size k) (join k h) ≡ h
 back-join no_tree h = refl
@@ -36,7 +37,8 @@ pub forest_in-cells_of : (g : Forest) → forest_in (cells_of g) ≡ g
 forest_in-cells_of g = ap forest_in (sym (append-nil (cells_of g))) ∙ forest_in-append g [] ∙ join-no_tree g
 
 pub tree_of-cells_of_tree : (t : Tree) → tree_of (cells_of_tree t) ≡ t
-tree_of-cells_of_tree t = ap (λ (g : Forest). let r : Tree = record { root = t.root; subtrees = g } in r) (forest_in-cells_of t.subtrees)
+tree_of-cells_of_tree t =
+    ap (λ (g : Forest). let r : Tree = record { root = t.root; subtrees = g } in r) (forest_in-cells_of t.subtrees)
 
 abbrev pub tree_code : Coded Tree
 tree_code =
