@@ -132,7 +132,7 @@ pub fn left_arcs(
             left.push(Edge {
                 from: numbers[edge.from as usize],
                 to: numbers[edge.to as usize],
-                tree: edge.tree.copy()?,
+                tree: edge.tree.clone()?,
             })?;
         }
     }
