@@ -35,6 +35,10 @@ none_here line table f sort r (Syntax at) some none e =
     }
 none_here line table f sort r Memory some none e = tt
 
+-- what holds of the sort holds of the next token, which is of it
+pub next_is_no : {sort : Sort} {r s : Reading} (p : Sort → Bool) → p sort ≡ false → Passes sort r s → NextIsNo p (rest_of r)
+next_is_no p fails n = subst (λ ts. NextIsNo p ts) (sym n.passed.are) (ap p n.of_sort ∙ fails)
+
 pub stayed_here : {k sort : Sort} {r s : Reading} {end : TextEnd} → Stays sort r s → EndsHere k s end → EndsHere k r end
 stayed_here {k} {end} st e = subst (λ r. EndsHere k r end) st.same e
 
@@ -90,7 +94,7 @@ module _ {Part : Type 0} {line : Grammar Part} {table : Part → Sort → Bool} 
   pub absent_read : {f : Form Part} {sort : Sort} {r s : Reading} (names : List (List ℕ)) → first table f sort ≡ false → Passes sort r s → IsRead line table (optional f) Nothing r r names names
   absent_read {f} {r} names none p =
       let on = p.passed.goes_on in
-      nowhere names (subst (λ ts. NextIsNo (first table f) ts) (sym p.passed.are) (ap (first table f) p.of_sort ∙ none)) (omega (arith, on.forward, on.within, ap length on.tokens))
+      nowhere names (next_is_no (first table f) none p) (omega (arith, on.forward, on.within, ap length on.tokens))
 
   -- one thing, and then another
   pub then_read : {f g : Form Part} {R S : Reads} {r s u : Reading} {old middle new : List (List ℕ)}

@@ -8,7 +8,7 @@ ghost use Rattle.qs_reader.specs.Names.{KeepsNames};
 ghost use Rattle.qs_reader.specs.Readers.{rest_of, IsNext, Stays};
 ghost use Rattle.qs_ruletext.specs.Grammar.{tree, list, item, side};
 ghost use Rattle.qs_ruletext.specs.Reading.{ReadsTree, ReadsSubtrees, ReadsList, ReadsItem, ReadsSide};
-ghost use Rattle.qs_ruletext.specs.Readers.{is_variable, IsGood, sort_of_class, PassesVariable, begins_tree, BeginsTree, a_head, in_parentheses, ReadsHead, IsRead, Ends};
+ghost use Rattle.qs_ruletext.specs.Readers.{is_variable, IsGood, sort_of_class, PassesVariable, begins_tree, IsTreeSort, BeginsTree, a_head, in_parentheses, ReadsHead, IsRead, Ends};
 
 use qs_lex::Kind;
 use qs_pattern::{Head, Pattern, Var, VarClass};
@@ -42,7 +42,8 @@ fn variable(reader: &mut Reader<'_>, class: VarClass) -> Option<Var>
 
 /// Whether a token of this kind begins a tree.
 fn begins_tree(kind: Kind) -> bool
-    ensures { result ≡ begins_tree (sort_of kind) }
+    ensures yes { IsTrue result → IsTreeSort (sort_of kind) }
+    ensures no { IsFalse result → begins_tree (sort_of kind) ≡ false }
 {
     match kind {
         Kind::Bare | Kind::Quoted => true,
