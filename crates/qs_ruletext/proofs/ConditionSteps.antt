@@ -7,34 +7,31 @@ use Rattle.qs_lex.specs.Expecting.{same_sort}
 use Rattle.qs_lex.proofs.Predictive.{next_neither}
 use Rattle.qs_pattern.specs.declared.condition.Cond.{Cond}
 use Rattle.qs_pattern.specs.Patterns.{Patterns}
-use Rattle.qs_pattern.specs.Conditions.{within, outside, all, any, Condition, Conditions, compared, negated, combined, no_condition, condition_first, condition_of, conditions}
+use Rattle.qs_pattern.specs.Conditions.{Comparing, within, outside, all, any, Condition, Conditions, compared, negated, combined, no_condition, condition_first, condition_of, conditions}
 use Rattle.qs_reader.specs.declared.text_end.TextEnd.{TextEnd}
 use Rattle.qs_reader.specs.Readers.{Reading, rest_of, Passes, Stays, EndsHere, Reads, AToken, a_token, Nothing, nothing, Then, then}
 use Rattle.qs_reader.proofs.Steps.{token_read, left_out_read, then_read, read_so, this_read, other_read, member_read, part_read, stayed_read, stayed_here, stayed_ends, ends_here, token_ends, part_ends, first_ends, then_ends, this_ends, other_ends, next_is_no}
 use Rattle.qs_ruletext.specs.Grammar.{list, cond, neg, prim}
-use Rattle.qs_ruletext.specs.Reading.{any_of, all_of, ReadsList, ReadsCond, reads_cond, ReadsMoreConjs, no_more_conjs, one_more_conj, ReadsConj, reads_conj, ReadsMoreNegs, no_more_negs, one_more_neg, ReadsNeg, not_negated, reads_negated, ReadsPrim, reads_group, reads_compared}
+use Rattle.qs_ruletext.specs.Reading.{any_of, all_of, comparing_word, ReadsList, ReadsCond, reads_cond, ReadsMoreConjs, no_more_conjs, one_more_conj, ReadsConj, reads_conj, ReadsMoreNegs, no_more_negs, one_more_neg, ReadsNeg, not_negated, reads_negated, ReadsPrim, reads_group, reads_compared}
 use Rattle.qs_ruletext.specs.Readers.{begins_item, begins_prim, IsRead, Ends, a_comparison}
 
 -- two lists, compared
 abbrev IsList : Patterns → Reads
-IsList list names text ts rest = ReadsList names text ts list rest
+IsList ps names text ts rest = ReadsList names text ts ps rest
 
 abbrev IsPrim : Condition → Reads
 IsPrim c names text ts rest = ReadsPrim names text ts c rest
 
-compared_within : {a b : Patterns} (names : List (List ℕ)) (text : List ℕ) (ts rest : List Token) → Then (IsList a) (Then (AToken (the_word Dans)) (IsList b)) names text ts rest → ReadsPrim names text ts (compared within a b) rest
-compared_within names text ts rest (then l (then (a_token w) m)) = reads_compared {word = within} l w m
-
-compared_outside : {a b : Patterns} (names : List (List ℕ)) (text : List ℕ) (ts rest : List Token) → Then (IsList a) (Then (AToken (the_word Hors)) (IsList b)) names text ts rest → ReadsPrim names text ts (compared outside a b) rest
-compared_outside names text ts rest (then l (then (a_token w) m)) = reads_compared {word = outside} l w m
+compares : {word : Comparing} {a b : Patterns} (names : List (List ℕ)) (text : List ℕ) (ts rest : List Token) → Then (IsList a) (Then (AToken (the_word (comparing_word word))) (IsList b)) names text ts rest → ReadsPrim names text ts (compared word a b) rest
+compares {word} names text ts rest (then l (then (a_token w) m)) = reads_compared {word = word} l w m
 
 pub read_within : {a b : Patterns} {r s u v : Reading} {old middle new : List (List ℕ)} → IsRead (part list) (λ names text ts rest. ReadsList names text ts a rest) r s old middle → Passes (the_word Dans) s u
     → IsRead (part list) (λ names text ts rest. ReadsList names text ts b rest) u v middle new → IsRead a_comparison (λ names text ts rest. ReadsPrim names text ts (compared within a b) rest) r v old new
-read_within {middle} a p b = read_so compared_within (then_read a (then_read (this_read (token_read middle refl p)) b))
+read_within {middle} a p b = read_so (compares {word = within}) (then_read a (then_read (this_read (token_read middle refl p)) b))
 
 pub read_outside : {a b : Patterns} {r s t u v : Reading} {old middle new : List (List ℕ)} → IsRead (part list) (λ names text ts rest. ReadsList names text ts a rest) r s old middle → Stays (the_word Dans) s t → Passes (the_word Hors) t u
     → IsRead (part list) (λ names text ts rest. ReadsList names text ts b rest) u v middle new → IsRead a_comparison (λ names text ts rest. ReadsPrim names text ts (compared outside a b) rest) r v old new
-read_outside {middle} a st p b = read_so compared_outside (then_read a (stayed_read st (then_read (other_read (token_read middle refl p)) b)))
+read_outside {middle} a st p b = read_so (compares {word = outside}) (then_read a (stayed_read st (then_read (other_read (token_read middle refl p)) b)))
 
 pub ends_in_first_list : {r : Reading} {end : TextEnd} → Ends (part list) r end → Ends a_comparison r end
 ends_in_first_list e = first_ends e
@@ -112,13 +109,13 @@ CompletesConj first more names text ts rest = (cs : Conditions) (end : List Toke
 pub conj_first : {c : Condition} (more : Conditions) → more ≡ no_condition → (names : List (List ℕ)) (text : List ℕ) (ts rest : List Token) → ReadsNeg names text ts c rest → CompletesConj c more names text ts rest
 conj_first {c} more e names text ts rest r cs end m = subst (λ ds. ReadsConj names text ts (all_of c (followed ds cs)) end) (sym e) (reads_conj r m)
 
-pub conj_next : {first : Condition} (more longer : List Cond) (c : Cond) → longer ≡ more ++ c ∷ [] → (names : List (List ℕ)) (text : List ℕ) (ts us rest : List Token) → CompletesConj first (conditions more) names text ts us
+pub conj_next : (first : Condition) (more longer : List Cond) (c : Cond) → longer ≡ more ++ c ∷ [] → (names : List (List ℕ)) (text : List ℕ) (ts us rest : List Token) → CompletesConj first (conditions more) names text ts us
     → Then (AToken (the_word Et)) (λ names text ts rest. ReadsNeg names text ts (condition_of c) rest) names text us rest → CompletesConj first (conditions longer) names text ts rest
-conj_next {first} more longer c e names text ts us rest before (then (a_token w) r) cs end m =
+conj_next first more longer c e names text ts us rest before (then (a_token w) r) cs end m =
     subst (λ ds. ReadsConj names text ts (all_of first ds) end) (sym (pushed more longer c cs e)) (before (condition_first (condition_of c) cs) end (one_more_neg w r m))
 
-pub conj_last : {first : Condition} {more : Conditions} (whole : Condition) → whole ≡ all_of first more → (names : List (List ℕ)) (text : List ℕ) (ts rest : List Token) → CompletesConj first more names text ts rest → ReadsConj names text ts whole rest
-conj_last {first} {more} whole e names text ts rest completes =
+pub conj_last : (first : Condition) (more : Conditions) (whole : Condition) → whole ≡ all_of first more → (names : List (List ℕ)) (text : List ℕ) (ts rest : List Token) → CompletesConj first more names text ts rest → ReadsConj names text ts whole rest
+conj_last first more whole e names text ts rest completes =
     subst (λ c. ReadsConj names text ts c rest) (sym (e ∙ ap (all_of first) (sym (followed-nil more)))) (completes no_condition rest no_more_negs)
 
 abbrev pub CompletesCond : Condition → Conditions → Reads
@@ -127,13 +124,13 @@ CompletesCond first more names text ts rest = (cs : Conditions) (end : List Toke
 pub cond_first : {c : Condition} (more : Conditions) → more ≡ no_condition → (names : List (List ℕ)) (text : List ℕ) (ts rest : List Token) → ReadsConj names text ts c rest → CompletesCond c more names text ts rest
 cond_first {c} more e names text ts rest r cs end m = subst (λ ds. ReadsCond names text ts (any_of c (followed ds cs)) end) (sym e) (reads_cond r m)
 
-pub cond_next : {first : Condition} (more longer : List Cond) (c : Cond) → longer ≡ more ++ c ∷ [] → (names : List (List ℕ)) (text : List ℕ) (ts us rest : List Token) → CompletesCond first (conditions more) names text ts us
+pub cond_next : (first : Condition) (more longer : List Cond) (c : Cond) → longer ≡ more ++ c ∷ [] → (names : List (List ℕ)) (text : List ℕ) (ts us rest : List Token) → CompletesCond first (conditions more) names text ts us
     → Then (AToken (the_word Ou)) (λ names text ts rest. ReadsConj names text ts (condition_of c) rest) names text us rest → CompletesCond first (conditions longer) names text ts rest
-cond_next {first} more longer c e names text ts us rest before (then (a_token w) r) cs end m =
+cond_next first more longer c e names text ts us rest before (then (a_token w) r) cs end m =
     subst (λ ds. ReadsCond names text ts (any_of first ds) end) (sym (pushed more longer c cs e)) (before (condition_first (condition_of c) cs) end (one_more_conj w r m))
 
-pub cond_last : {first : Condition} {more : Conditions} (whole : Condition) → whole ≡ any_of first more → (names : List (List ℕ)) (text : List ℕ) (ts rest : List Token) → CompletesCond first more names text ts rest → ReadsCond names text ts whole rest
-cond_last {first} {more} whole e names text ts rest completes =
+pub cond_last : (first : Condition) (more : Conditions) (whole : Condition) → whole ≡ any_of first more → (names : List (List ℕ)) (text : List ℕ) (ts rest : List Token) → CompletesCond first more names text ts rest → ReadsCond names text ts whole rest
+cond_last first more whole e names text ts rest completes =
     subst (λ c. ReadsCond names text ts c rest) (sym (e ∙ ap (any_of first) (sym (followed-nil more)))) (completes no_condition rest no_more_conjs)
 
 -- one member, or several

@@ -28,6 +28,7 @@ use Rattle.qs_ruletext.specs.Names.{AddsName, AddsNameOf, NamesGrow}
 use Rattle.qs_ruletext.specs.Reading.{comparing_word, IsLabelOf, IsHeadOf, joined, ReadsTree, reads_node, reads_tree_variable, ReadsSubtrees, no_parentheses, nothing_inside, list_inside, ReadsList, reads_list, ReadsMoreItems, no_more_items, one_more_item, ReadsItem, reads_tree, reads_forest_variable, ReadsMoreTrees, no_more_trees, one_more_tree, ReadsSide, reads_side, any_of, all_of, ReadsCond, reads_cond, ReadsMoreConjs, no_more_conjs, one_more_conj, ReadsConj, reads_conj, ReadsMoreNegs, no_more_negs, one_more_neg, ReadsNeg, not_negated, reads_negated, ReadsPrim, reads_group, reads_compared}
 use Rattle.qs_ruletext.specs.Rules.{ReadsCondIfGiven, no_cond, some_cond, ReadsRule, reads_rule, ReadsRules}
 use Rattle.qs_ruletext.proofs.OneReading.{one_sort}
+use Rattle.qs_ruletext.proofs.ComparingWords.{none_compares}
 
 -- the texts of the labels among these tokens, in order
 abbrev pub HaveTexts : List ℕ → List Token → List (List ℕ) → Type 0
@@ -203,7 +204,7 @@ mutual
 
   prim_passes : {names : List (List ℕ)} {text : List ℕ} {ts rest : List Token} {c : Condition} → ReadsPrim names text ts c rest → PassesLabels names text ts (labels_in_condition c) rest
   prim_passes (reads_group e c f) = passes_both (passes_sign opening refl e) (passes_before closing refl (cond_passes c) f)
-  prim_passes (reads_compared {word} a e b) = passes_both (passes_before (the_word (comparing_word word)) refl (list_passes a) e) (list_passes b)
+  prim_passes (reads_compared {word} a e b) = passes_both (passes_before (the_word (comparing_word word)) (none_compares (same_sort a_label) refl refl word) (list_passes a) e) (list_passes b)
 
 given_passes : {names : List (List ℕ)} {text : List ℕ} {ts rest : List Token} {c : Option Condition} → ReadsCondIfGiven names text ts c rest → PassesLabels names text ts (labels_if_given c) rest
 given_passes no_cond = passes_nothing

@@ -1,3 +1,4 @@
+pub mod ComparingWords
 pub mod Tables
 pub mod Naming
 pub mod SideSteps

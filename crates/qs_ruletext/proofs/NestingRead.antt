@@ -6,8 +6,8 @@ use Rattle.qs_pattern.specs.Patterns.{Patterns}
 use Rattle.qs_pattern.specs.Conditions.{Condition, Conditions, no_condition, condition_first}
 use Rattle.qs_pattern.specs.Rules.{UnmarkedRule}
 use Rattle.qs_lex.specs.Grammar.{a_tree_variable, a_forest_variable, the_word, comma, plus, slash, equals, stop}
-use Rattle.qs_lex.specs.declared.token.Word.TheVariants.{Dans, Hors, Et, Ou, Non}
-use Rattle.qs_ruletext.specs.Reading.{ReadsTree, reads_node, reads_tree_variable, ReadsSubtrees, no_parentheses, nothing_inside, list_inside, ReadsList, reads_list, ReadsMoreItems, no_more_items, one_more_item, ReadsItem, reads_tree, reads_forest_variable, ReadsMoreTrees, no_more_trees, one_more_tree, ReadsSide, reads_side, any_of, all_of, ReadsCond, reads_cond, ReadsMoreConjs, no_more_conjs, one_more_conj, ReadsConj, reads_conj, ReadsMoreNegs, no_more_negs, one_more_neg, ReadsNeg, not_negated, reads_negated, ReadsPrim, reads_group, reads_compared}
+use Rattle.qs_lex.specs.declared.token.Word.TheVariants.{Et, Ou, Non}
+use Rattle.qs_ruletext.specs.Reading.{comparing_word, ReadsTree, reads_node, reads_tree_variable, ReadsSubtrees, no_parentheses, nothing_inside, list_inside, ReadsList, reads_list, ReadsMoreItems, no_more_items, one_more_item, ReadsItem, reads_tree, reads_forest_variable, ReadsMoreTrees, no_more_trees, one_more_tree, ReadsSide, reads_side, any_of, all_of, ReadsCond, reads_cond, ReadsMoreConjs, no_more_conjs, one_more_conj, ReadsConj, reads_conj, ReadsMoreNegs, no_more_negs, one_more_neg, ReadsNeg, not_negated, reads_negated, ReadsPrim, reads_group, reads_compared}
 use Rattle.qs_ruletext.specs.Rules.{ReadsCondIfGiven, no_cond, some_cond, ReadsRule, reads_rule}
 use Rattle.qs_ruletext.proofs.Nesting.{Fits, below, height, member_height, condition_height, condition_heights, height_if_given, rule_height, below_least, height-joined, looser}
 use Rattle.qs_ruletext.proofs.NestingSteps.{keeps, head_keeps, Shows, shows_less, shows_none, shows_one, shows_both, shows_behind, shows_group}
@@ -79,8 +79,7 @@ mutual
 
   prim_shows : {names : List (List ℕ)} {text : List ℕ} {ts rest : List Token} {c : Condition} → ReadsPrim names text ts c rest → Shows (member 3 c) ts rest
   prim_shows (reads_group {t} {u} {c = c} opens inside closes) = shows_less (shows_group t u opens (cond_shows inside) closes) (looser c (condition_height c)).3
-  prim_shows (reads_within {t} a is b) = shows_both (list_shows a) (shows_behind t (keeps (the_word Dans) t (λ n. refl) is) (list_shows b))
-  prim_shows (reads_outside {t} a is b) = shows_both (list_shows a) (shows_behind t (keeps (the_word Hors) t (λ n. refl) is) (list_shows b))
+  prim_shows (reads_compared {word} {t} a is b) = shows_both (list_shows a) (shows_behind t (keeps (the_word (comparing_word word)) t (λ n. refl) is) (list_shows b))
 
 -- rules
 given_shows : {names : List (List ℕ)} {text : List ℕ} {ts rest : List Token} {condition : Option Condition} → ReadsCondIfGiven names text ts condition rest → Shows (height_if_given condition) ts rest

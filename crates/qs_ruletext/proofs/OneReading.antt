@@ -5,8 +5,7 @@ use Rattle.std.proofs.Common.{◌≡◌, ℕ, Bool, true, false, ◌||◌, refl,
 use Rattle.std.proofs.lemmas.Bool.{false≢true}
 use Rattle.qs_lex.specs.declared.token.Token.{Token}
 use Rattle.qs_lex.specs.declared.token.Kind.TheVariants.{Variable}
-use Rattle.qs_lex.specs.declared.token.Word.{Word}
-use Rattle.qs_lex.specs.declared.token.Word.TheVariants.{Hors, Et, Ou, Non}
+use Rattle.qs_lex.specs.declared.token.Word.TheVariants.{Et, Ou, Non}
 use Rattle.qs_lex.specs.Tokens.{bytes_of}
 use Rattle.qs_lex.specs.Grammar.{Sort, a_label, a_label_variable, a_tree_variable, a_forest_variable, the_word, opening, closing, comma, plus, sort_of, IsOf, part, IsWhole}
 use Rattle.qs_lex.specs.Expecting.{same_sort, NextIsNo}
@@ -19,10 +18,11 @@ use Rattle.qs_pattern.specs.contracts.variable.Var as var
 use Rattle.qs_pattern.specs.declared.pattern.Head.{Head}
 use Rattle.qs_pattern.specs.declared.pattern.Head.TheVariants as head
 use Rattle.qs_pattern.specs.Patterns.{Patterns, no_pattern, node_first, tree_var_first, forest_var_first}
-use Rattle.qs_pattern.specs.Conditions.{Comparing, within, outside, Condition, Conditions, compared, negated, condition_first}
+use Rattle.qs_pattern.specs.Conditions.{Condition, Conditions, compared, negated, condition_first}
 use Rattle.qs_ruletext.specs.Grammar.{Part, tree, list, line}
 use Rattle.qs_ruletext.specs.Reading.{comparing_word, IsLabelOf, IsVariableOf, IsHeadOf, joined, ReadsTree, reads_node, reads_tree_variable, ReadsSubtrees, no_parentheses, nothing_inside, list_inside, ReadsList, reads_list, ReadsMoreItems, no_more_items, one_more_item, ReadsItem, reads_tree, reads_forest_variable, ReadsMoreTrees, no_more_trees, one_more_tree, ReadsSide, reads_side, any_of, all_of, ReadsCond, reads_cond, ReadsMoreConjs, no_more_conjs, one_more_conj, ReadsConj, reads_conj, ReadsMoreNegs, no_more_negs, one_more_neg, ReadsNeg, not_negated, reads_negated, ReadsPrim, reads_group, reads_compared}
 use Rattle.qs_ruletext.specs.Readers.{table, begins_tree, begins_item}
+use Rattle.qs_ruletext.proofs.ComparingWords.{none_compares, one_comparing}
 use Rattle.qs_ruletext.proofs.Tables.{ok}
 use Rattle.qs_reader.proofs.Tokens.{label_sort}
 use Rattle.qs_ruletext.proofs.Whole.{tree_whole, list_whole}
@@ -56,21 +56,6 @@ fails_not p s t holds e n = false≢true (sym n ∙ ap p e ∙ holds)
 -- no token is of two sorts
 pub one_sort : (s r : Sort) (t : Token) → same_sort s r ≡ false → IsOf s t → IsOf r t → ⊥
 one_sort s r t differ e f = false≢true (sym differ ∙ same_itself s r (sym f ∙ e))
-
--- the token tells by which word two lists are compared
-comparing_at : Word → Comparing
-comparing_at Hors = outside
-comparing_at _ = within
-
-comparing_at-is : (w : Comparing) → comparing_at (comparing_word w) ≡ w
-comparing_at-is within = refl
-comparing_at-is outside = refl
-
-one_comparing : (v w : Comparing) (t : Token) → IsOf (the_word (comparing_word v)) t → IsOf (the_word (comparing_word w)) t → v ≡ w
-one_comparing v w t e f =
-    let same : the_word (comparing_word v) ≡ the_word (comparing_word w) = sym e ∙ f in
-    let word : comparing_word v ≡ comparing_word w = cc in
-    sym (comparing_at-is v) ∙ ap comparing_at word ∙ comparing_at-is w
 
 or_first : (a b : Bool) → (a || b) ≡ false → a ≡ false
 or_first true b e = e
@@ -277,6 +262,6 @@ module _ (names : List (List ℕ)) (text : List ℕ) (distinct : AreDistinct nam
     one_prim (reads_group {t} e c f) (reads_compared a g b) n m = absurd (no_list opening t refl e a)
     one_prim (reads_compared a g b) (reads_group {t} e c f) n m = absurd (no_list opening t refl e a)
     one_prim (reads_compared {word = v} {t} a e b) (reads_compared {word = w} {t = u} p f q) n m =
-        let same = both_lists (fails_for after_list (the_word (comparing_word v)) t refl e) (fails_for after_list (the_word (comparing_word w)) u refl f) a b p q n m in
+        let same = both_lists (fails_for after_list (the_word (comparing_word v)) t (none_compares after_list refl refl v) e) (fails_for after_list (the_word (comparing_word w)) u (none_compares after_list refl refl w) f) a b p q n m in
         let word = one_comparing v w u (subst (λ x. IsOf (the_word (comparing_word v)) x) same.1 e) f in
         (λ i. compared (word i) (same.0 i) (same.2 i), same.3)

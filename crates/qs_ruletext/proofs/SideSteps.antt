@@ -8,7 +8,7 @@ use Rattle.qs_lex.specs.declared.token.Kind.{Kind}
 use Rattle.qs_lex.specs.declared.token.Kind.TheVariants.{Bare, Quoted, Variable, Node, Word as a_word, Opening, Closing, Comma, Plus, Slash, Equals, Stop}
 use Rattle.qs_lex.specs.Tokens.{IsTokenOf, bytes_of}
 use Rattle.qs_lex.specs.Spelling.{Spells}
-use Rattle.qs_lex.specs.Grammar.{Sort, a_label as the_label, a_label_variable, a_tree_variable, a_forest_variable, opening, closing, comma, plus, variable_sort, sort_of, IsOf}
+use Rattle.qs_lex.specs.Grammar.{Sort, a_label as the_label, a_label_variable, a_tree_variable, a_forest_variable, opening, closing, variable_sort, sort_of, part}
 use Rattle.qs_lex.specs.Expecting.{same_sort, Apart}
 use Rattle.qs_lex.proofs.Predictive.{next_neither}
 use Rattle.qs_lex.proofs.Predicting.{apart_is}

@@ -97,7 +97,7 @@ fn subtrees(reader: &mut Reader<'_>, names: &mut Names) -> Result<Vec<Pattern>, 
 fn tree(reader: &mut Reader<'_>, names: &mut Names) -> Result<Pattern, TextEnd>
     requires room { length names.old + length (rest_of reader.old) < 2 ^ 32 }
     ensures keeps { KeepsNames names.old names.new }
-    ensures read { IfOk result (λ tree. IsRead (part tree) (λ names text ts rest. ReadsTree names text ts (one_pattern tree) rest) reader.old reader.new names.old names.new) }
+    ensures read { IfOk result (λ found. IsRead (part tree) (λ names text ts rest. ReadsTree names text ts (one_pattern found) rest) reader.old reader.new names.old names.new) }
     ensures ends { IfErr result (Ends (part tree) reader.old) }
 {
     if let Some(var) = variable(reader, VarClass::Tree) {
