@@ -18,8 +18,11 @@ use Rattle.qs_reader.proofs.Tokens.{label_sort}
 pub on_and_on : {r s u : Reading} → GoesOn r s → GoesOn s u → GoesOn r u
 on_and_on g h = record { text = h.text ∙ g.text; tokens = h.tokens ∙ g.tokens; forward = omega (arith, g.forward, h.forward); within = h.within }
 
-passed_length : {t : Token} {r s : Reading} → IsPassed t r s → length (rest_of r) ≡ length (rest_of s) + 1
+pub passed_length : {t : Token} {r s : Reading} → IsPassed t r s → length (rest_of r) ≡ length (rest_of s) + 1
 passed_length p = ap length p.are ∙ omega arith
+
+pub stayed_length : {sort : Sort} {r s : Reading} → Stays sort r s → length (rest_of s) ≡ length (rest_of r)
+stayed_length st = ap (λ r. length (rest_of r)) st.same
 
 -- a `?` that hands on why a reader ended
 pub hands_on : {T : Type 0} (r : Result T TextEnd) {end : TextEnd} (P : TextEnd → Type 0) → IsErrAnd r (λ e. e ≡ end) → P end → IfErr r P

@@ -67,6 +67,7 @@ pub fn is_at_tree(reader: &Reader<'_>) -> bool
 fn head(reader: &mut Reader<'_>, names: &mut Names) -> Result<Head, TextEnd>
     requires room { length names.old + length (rest_of reader.old) < 2 ^ 32 }
     ensures keeps { KeepsNames names.old names.new }
+    ensures shorter { IfOk result (λ _. length (rest_of reader.new) < length (rest_of reader.old)) }
     ensures read { IfOk result (λ head. IsRead a_head (ReadsHead head) reader.old reader.new names.old names.new) }
     ensures ends { IfErr result (Ends a_head reader.old) }
 {
@@ -84,7 +85,10 @@ fn subtrees(reader: &mut Reader<'_>, names: &mut Names) -> Result<Vec<Pattern>, 
     ensures read { IfOk result (λ kids. IsRead in_parentheses (λ names text ts rest. ReadsSubtrees names text ts (patterns kids.items) rest) reader.old reader.new names.old names.new) }
     ensures ends { IfErr result (Ends in_parentheses reader.old) }
 {
-    if !reader.pass(Kind::Opening) || reader.pass(Kind::Closing) {
+    if !reader.pass(Kind::Opening) {
+        return Ok(Vec::new(reader.alloc()));
+    }
+    if reader.pass(Kind::Closing) {
         return Ok(Vec::new(reader.alloc()));
     }
     let kids = list(reader, names)?;

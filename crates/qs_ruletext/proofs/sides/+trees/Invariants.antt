@@ -19,8 +19,8 @@ decreases-subtrees l = 4 * length (rest_of l.reader.now) + 3
 abbrev pub decreases-tree : goal.decreases-tree
 decreases-tree l = 4 * length (rest_of l.reader.now)
 
-abbrev pub invariant-list-loop : goal.invariant-list-loop
-invariant-list-loop l = IsReadSoFar (line list) (one comma · part item) (CompletesList (patterns l.items.items)) l.fn.reader l.reader l.fn.names l.names
+abbrev pub invariant-list-loop-reader : goal.invariant-list-loop-reader
+invariant-list-loop-reader l = IsReadSoFar (line list) (one comma · part item) (CompletesList (patterns l.items.items)) l.fn.reader l.reader l.fn.names l.names
 
-abbrev pub decreases-list-loop : goal.decreases-list-loop
-decreases-list-loop l = length (rest_of l.reader)
+abbrev pub decreases-list-loop-reader : goal.decreases-list-loop-reader
+decreases-list-loop-reader l = length (rest_of l.reader)

@@ -7,8 +7,8 @@ use Rattle.qs_ruletext.specs.Readers.{IsReadSoFar}
 use Rattle.qs_ruletext.proofs.Growing.{CompletesSide}
 use Rattle.qs_ruletext.proofs.sides.side.Given as goal
 
-abbrev pub invariant-loop : goal.invariant-loop
-invariant-loop l = IsReadSoFar (line side) (one plus · part tree) (CompletesSide (patterns l.trees.items)) l.fn.reader l.reader l.fn.names l.names
+abbrev pub invariant-loop-reader : goal.invariant-loop-reader
+invariant-loop-reader l = IsReadSoFar (line side) (one plus · part tree) (CompletesSide (patterns l.trees.items)) l.fn.reader l.reader l.fn.names l.names
 
-abbrev pub decreases-loop : goal.decreases-loop
-decreases-loop l = length (rest_of l.reader)
+abbrev pub decreases-loop-reader : goal.decreases-loop-reader
+decreases-loop-reader l = length (rest_of l.reader)
