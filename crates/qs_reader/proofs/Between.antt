@@ -27,7 +27,7 @@ next_at [] us zero t e = absurd cc
 next_at [] us (suc at) t e = absurd cc
 next_at (x ∷ ts) us (suc at) t e = next_at ts us at t e
 
-at_next : (ts : List Token) (at : ℕ) (t : Token) → slice_get ts at ≡ Some t → (us : List Token) × (drop at ts ≡ t ∷ us)
+pub at_next : (ts : List Token) (at : ℕ) (t : Token) → slice_get ts at ≡ Some t → (us : List Token) × (drop at ts ≡ t ∷ us)
 at_next [] at t e = absurd cc
 at_next (x ∷ ts) zero t e = let same : x ≡ t = cc in (ts, ap (λ u. u ∷ ts) same)
 at_next (x ∷ ts) (suc at) t e = at_next ts at t e

@@ -19,8 +19,11 @@ use Rattle.qs_reader.proofs.Tokens.{label_sort}
 pub on_and_on : {r s u : Reading} → GoesOn r s → GoesOn s u → GoesOn r u
 on_and_on g h = record { text = h.text ∙ g.text; tokens = h.tokens ∙ g.tokens; forward = omega (arith, g.forward, h.forward); within = h.within }
 
-passed_length : {t : Token} {r s : Reading} → IsPassed t r s → length (rest_of r) ≡ length (rest_of s) + 1
+pub passed_length : {t : Token} {r s : Reading} → IsPassed t r s → length (rest_of r) ≡ length (rest_of s) + 1
 passed_length p = ap length p.are ∙ omega arith
+
+pub stayed_length : {sort : Sort} {r s : Reading} → Stays sort r s → length (rest_of s) ≡ length (rest_of r)
+stayed_length st = ap (λ r. length (rest_of r)) st.same
 
 -- a `?` that hands on why a reader ended
 pub hands_on : {T : Type 0} (r : Result T TextEnd) {end : TextEnd} (P : TextEnd → Type 0) → IsErrAnd r (λ e. e ≡ end) → P end → IfErr r P
@@ -35,6 +38,10 @@ none_here line table f sort r (Syntax at) some none e =
       stops = subst (λ k. StopsIn line table f (rest_of r) (drop k r.tokens)) (sym e.0) (none_fits some (none e.2));
     }
 none_here line table f sort r Memory some none e = tt
+
+-- what holds of the sort holds of the next token, which is of it
+pub next_is_no : {sort : Sort} {r s : Reading} (p : Sort → Bool) → p sort ≡ false → Passes sort r s → NextIsNo p (rest_of r)
+next_is_no p fails n = subst (λ ts. NextIsNo p ts) (sym n.passed.are) (ap p n.of_sort ∙ fails)
 
 pub stayed_here : {k sort : Sort} {r s : Reading} {end : TextEnd} → Stays sort r s → EndsHere k s end → EndsHere k r end
 stayed_here {k} {end} st e = subst (λ r. EndsHere k r end) st.same e
@@ -91,7 +98,7 @@ module _ {Part : Type 0} {line : Grammar Part} {table : Part → Sort → Bool} 
   pub absent_read : {f : Form Part} {sort : Sort} {r s : Reading} (names : List (List ℕ)) → first table f sort ≡ false → Passes sort r s → IsRead line table (optional f) Nothing r r names names
   absent_read {f} {r} names none p =
       let on = p.passed.goes_on in
-      nowhere names (subst (λ ts. NextIsNo (first table f) ts) (sym p.passed.are) (ap (first table f) p.of_sort ∙ none)) (omega (arith, on.forward, on.within, ap length on.tokens))
+      nowhere names (next_is_no (first table f) none p) (omega (arith, on.forward, on.within, ap length on.tokens))
 
   -- one thing, and then another
   pub then_read : {f g : Form Part} {R S : Reads} {r s u : Reading} {old middle new : List (List ℕ)}

@@ -16,6 +16,7 @@ use std::alloc::Global;
 use std::marker::Model;
 
 /// A text, its tokens, and the place among them at which the reader stands: so many of them it has passed.
+#[derive(Drop)]
 pub struct Reader<'a> {
     alloc: Global,
     text: &'a str,

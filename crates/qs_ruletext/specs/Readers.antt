@@ -74,11 +74,15 @@ pub record PassesVariable (sort : Sort) (v : Var) (r s : Reading) : Type 0 where
   pub passed : IsPassed token r s
   pub is : IsVariableOf sort token v
 
+-- tokens of these sorts begin a tree
+abbrev pub IsTreeSort : Sort → Type 0
+IsTreeSort k = (k ≡ a_label) ⊎ ((k ≡ a_label_variable) ⊎ (k ≡ a_tree_variable))
+
 -- the next token begins a tree
 pub record BeginsTree (r : Reading) : Type 0 where
   pub token : Token
   pub next : IsNext token r
-  pub begins : begins_tree (sort_of token.kind) ≡ true
+  pub of_sort : IsTreeSort (sort_of token.kind)
 
 -- a label or a label variable, and what may stand in parentheses behind it
 abbrev pub a_head : Form Part

@@ -9,7 +9,7 @@ ghost use Rattle.qs_reader.specs.Names.{KeepsNames};
 ghost use Rattle.qs_reader.specs.Readers.{rest_of, IsNext, Stays};
 ghost use Rattle.qs_ruletext.specs.Grammar.{tree, list, item, side};
 ghost use Rattle.qs_ruletext.specs.Reading.{ReadsTree, ReadsSubtrees, ReadsList, ReadsItem, ReadsSide};
-ghost use Rattle.qs_ruletext.specs.Readers.{is_variable, IsGood, sort_of_class, PassesVariable, begins_tree, BeginsTree, a_head, in_parentheses, ReadsHead, IsRead, Ends};
+ghost use Rattle.qs_ruletext.specs.Readers.{is_variable, IsGood, sort_of_class, PassesVariable, begins_tree, IsTreeSort, BeginsTree, a_head, in_parentheses, ReadsHead, IsRead, Ends};
 
 use qs_lex::Kind;
 use qs_pattern::{Head, Pattern, Var, VarClass};
@@ -43,7 +43,8 @@ fn variable(reader: &mut Reader<'_>, class: VarClass) -> Option<Var>
 
 /// Whether a token of this kind begins a tree.
 fn begins_tree(kind: Kind) -> bool
-    ensures { result ≡ begins_tree (sort_of kind) }
+    ensures yes { IsTrue result → IsTreeSort (sort_of kind) }
+    ensures no { IsFalse result → begins_tree (sort_of kind) ≡ false }
 {
     match kind {
         Kind::Bare | Kind::Quoted => true,
@@ -67,6 +68,7 @@ pub fn is_at_tree(reader: &Reader<'_>) -> bool
 fn head(reader: &mut Reader<'_>, names: &mut Names) -> Result<Head, TextEnd>
     requires room { length names.old + length (rest_of reader.old) < 2 ^ 32 }
     ensures keeps { KeepsNames names.old names.new }
+    ensures shorter { IfOk result (λ _. length (rest_of reader.new) < length (rest_of reader.old)) }
     ensures read { IfOk result (λ head. IsRead a_head (ReadsHead head) reader.old reader.new names.old names.new) }
     ensures ends { IfErr result (Ends a_head reader.old) }
 {
@@ -84,7 +86,10 @@ fn subtrees(reader: &mut Reader<'_>, names: &mut Names) -> Result<Vec<Pattern>, 
     ensures read { IfOk result (λ kids. IsRead in_parentheses (λ names text ts rest. ReadsSubtrees names text ts (patterns kids.items) rest) reader.old reader.new names.old names.new) }
     ensures ends { IfErr result (Ends in_parentheses reader.old) }
 {
-    if !reader.pass(Kind::Opening) || reader.pass(Kind::Closing) {
+    if !reader.pass(Kind::Opening) {
+        return Ok(Vec::new(reader.alloc()));
+    }
+    if reader.pass(Kind::Closing) {
         return Ok(Vec::new(reader.alloc()));
     }
     let kids = list(reader, names)?;
@@ -97,7 +102,7 @@ fn subtrees(reader: &mut Reader<'_>, names: &mut Names) -> Result<Vec<Pattern>, 
 fn tree(reader: &mut Reader<'_>, names: &mut Names) -> Result<Pattern, TextEnd>
     requires room { length names.old + length (rest_of reader.old) < 2 ^ 32 }
     ensures keeps { KeepsNames names.old names.new }
-    ensures read { IfOk result (λ tree. IsRead (part tree) (λ names text ts rest. ReadsTree names text ts (one_pattern tree) rest) reader.old reader.new names.old names.new) }
+    ensures read { IfOk result (λ found. IsRead (part tree) (λ names text ts rest. ReadsTree names text ts (one_pattern found) rest) reader.old reader.new names.old names.new) }
     ensures ends { IfErr result (Ends (part tree) reader.old) }
 {
     if let Some(var) = variable(reader, VarClass::Tree) {
