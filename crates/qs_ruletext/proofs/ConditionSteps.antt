@@ -7,7 +7,8 @@ use Rattle.qs_lex.specs.Expecting.{same_sort}
 use Rattle.qs_lex.proofs.Predictive.{next_neither}
 use Rattle.qs_pattern.specs.declared.condition.Cond.{Cond}
 use Rattle.qs_pattern.specs.Patterns.{Patterns}
-use Rattle.qs_pattern.specs.Conditions.{Comparing, within, outside, all, any, Condition, Conditions, compared, negated, combined, no_condition, condition_first, condition_of, conditions}
+use Rattle.qs_pattern.specs.Conditions.{Comparing, within, outside, all, any, Condition, Conditions, compared, negated, combined, no_condition, condition_first, condition_of}
+use Rattle.qs_pattern.specs.working.Conditions.{conditions}
 use Rattle.qs_reader.specs.declared.text_end.TextEnd.{TextEnd}
 use Rattle.qs_reader.specs.Readers.{Reading, rest_of, Passes, Stays, EndsHere, Reads, AToken, a_token, Nothing, nothing, Then, then}
 use Rattle.qs_reader.proofs.Steps.{token_read, left_out_read, then_read, read_so, this_read, other_read, member_read, part_read, stayed_read, stayed_here, stayed_ends, ends_here, token_ends, part_ends, first_ends, then_ends, this_ends, other_ends, next_is_no}

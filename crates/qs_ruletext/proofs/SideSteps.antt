@@ -9,7 +9,8 @@ use Rattle.qs_lex.specs.declared.token.Kind.TheVariants.{Bare, Quoted, Variable,
 use Rattle.qs_lex.specs.Tokens.{IsTokenOf, bytes_of}
 use Rattle.qs_lex.specs.Spelling.{Spells}
 use Rattle.qs_lex.specs.Grammar.{Sort, a_label as the_label, a_label_variable, a_tree_variable, a_forest_variable, opening, closing, variable_sort, sort_of, part}
-use Rattle.qs_lex.specs.Expecting.{same_sort, Apart}
+use Rattle.qs_lex.specs.Expecting.{same_sort}
+use Rattle.qs_lex.specs.working.Expecting.{Apart}
 use Rattle.qs_lex.proofs.Predictive.{next_neither}
 use Rattle.qs_lex.proofs.Predicting.{apart_is}
 use Rattle.qs_lex.proofs.Readings.{token_stands}
@@ -20,7 +21,8 @@ use Rattle.qs_pattern.specs.declared.pattern.Head.{Head}
 use Rattle.qs_pattern.specs.declared.pattern.Head.TheVariants as head
 use Rattle.qs_pattern.specs.declared.pattern.Pattern.{Pattern}
 use Rattle.qs_pattern.specs.Classes.{IsClassOf}
-use Rattle.qs_pattern.specs.Patterns.{Patterns, no_pattern, node_first, tree_var_first, forest_var_first, one_pattern, patterns}
+use Rattle.qs_pattern.specs.Patterns.{Patterns, no_pattern, node_first, tree_var_first, forest_var_first, patterns}
+use Rattle.qs_pattern.specs.working.Patterns.{one_pattern}
 use Rattle.qs_tree.specs.declared.cell.Label.{Label}
 use Rattle.qs_reader.specs.declared.text_end.TextEnd.{TextEnd}
 use Rattle.qs_reader.specs.Readers.{Reading, rest_of, IsNext, IsPassed, Passes, Stays, NamesLabel, EndsHere, Reads, AToken, a_token, ALabel, a_label, Nothing, nothing, Then, then}

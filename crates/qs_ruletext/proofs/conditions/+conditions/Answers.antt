@@ -1,7 +1,8 @@
 use Rattle.std.proofs.Common.{refl, ap}
 use Rattle.std.proofs.lemmas.Result.{IfOk-weaker, IfErr-weaker}
 use Rattle.qs_lex.specs.Grammar.{part}
-use Rattle.qs_pattern.specs.Conditions.{negated, condition_of, conditions}
+use Rattle.qs_pattern.specs.Conditions.{negated, condition_of}
+use Rattle.qs_pattern.specs.working.Conditions.{conditions}
 use Rattle.qs_reader.proofs.Steps.{hands_on, token_read, then_read, part_read, part_ends, first_ends}
 use Rattle.qs_reader.proofs.Lists.{first_read, next_read, no_more_read, next_ends}
 use Rattle.qs_ruletext.specs.Grammar.{cond, conj, neg, prim}

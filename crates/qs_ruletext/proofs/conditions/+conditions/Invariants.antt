@@ -1,7 +1,8 @@
 use Rattle.std.proofs.Common.{◌+◌, ◌*◌, length}
 use Rattle.qs_lex.specs.declared.token.Word.TheVariants.{Et, Ou}
 use Rattle.qs_lex.specs.Grammar.{the_word, one, part, ◌·◌}
-use Rattle.qs_pattern.specs.Conditions.{condition_of, conditions}
+use Rattle.qs_pattern.specs.Conditions.{condition_of}
+use Rattle.qs_pattern.specs.working.Conditions.{conditions}
 use Rattle.qs_reader.specs.Readers.{rest_of}
 use Rattle.qs_ruletext.specs.Grammar.{cond, conj, neg, line}
 use Rattle.qs_ruletext.specs.Readers.{IsReadSoFar}
