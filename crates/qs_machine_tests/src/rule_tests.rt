@@ -103,3 +103,19 @@ fn a_copy_of_a_rule_has_its_sides_and_its_condition(rt: HostRuntime) {
     let rules = rules_of(&deck);
     assert!(rt; rules.len() == 2 && is_doubled(&rt, &rules[0]) && is_kept(&rt, &rules[1]));
 }
+
+/// A rule that puts two equal trees in the place of one, with this mark.
+fn doubling<R: Abort>(rt: &R, alloc: Global, unique: bool) -> Rule {
+    let left = vec![in alloc; Pattern::Tree(I)].expect(rt, "a side");
+    let right = vec![in alloc; Pattern::Tree(I), Pattern::Tree(I)].expect(rt, "a side");
+    Rule::new(alloc, left, right, None, unique)
+}
+
+#[test]
+fn a_rule_and_its_copy_have_the_mark_that_was_given(rt: HostRuntime) {
+    for unique in [false, true] {
+        let rule = doubling(&rt, rt.alloc(), unique);
+        let copy = rule.copy().expect(&rt, "a copy");
+        assert!(rt; rule.unique() == unique && copy.unique() == unique);
+    }
+}
