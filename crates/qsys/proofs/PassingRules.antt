@@ -24,7 +24,7 @@ use Rattle.qs_ruletext.specs.Texts.{joined, in_parentheses, variable_text, head_
 use Rattle.qs_ruletext.specs.Written.{HasFullLists, HaveFullLists, written}
 use Rattle.qs_ruletext.proofs.ReadBack.{token, space, spaced}
 use Rattle.qs_ruletext.proofs.HeadsReadBack.{Closes, label_variable_goes, tree_variable_goes, forest_variable_goes}
-use Rattle.qsys.proofs.Neighbours.{compares, ends, beside, not_behind}
+use Rattle.qsys.proofs.Neighbours.{compares, ends, beside, comparing_compares, end_before, not_behind}
 use Rattle.qsys.proofs.Passing.{IsAt, IsBehind, Shows, pass_none, pass_one, pass_kind, pass_label}
 
 -- the condition of a rule, where it has one, compares no empty list
