@@ -1,9 +1,11 @@
 #!/usr/bin/env python3
 """Times the program on decks that it has to close, on long texts of rules, and on long graphs.
 
-    bench/decks.py [RUNS]
+    bench/decks.py [RUNS] [--only KIND,..] [--beside PROGRAM ..]
 
-Builds the program first where it has to be. The kinds of decks to close, with n for a number:
+Builds the program first where it has to be. With programs beside it, as the program of another commit or another interpreter
+that takes the same words, each is run on the same decks in the same run, and has the lines of its own. With kinds, only these
+decks are run. The kinds of decks to close, with n for a number:
 
     made     Ti(I*) + Ti(J*) == Tj(I*) for i from 0 to n - 1 and j = i + 1, on a chain of 2^n trees
     amb      N(I*) + N(J*) == N(P(I*,J*)) on a chain of n trees: all ways to put them in pairs
@@ -14,6 +16,7 @@ Builds the program first where it has to be. The kinds of decks to close, with n
     words    n rules that rewrite a word each, on a chain of n words
     lexicon  the same n rules on a chain of 25 words
     star     I* + I* == C on a node with n arcs into it and n out of it, of which no two are equal
+    cascade  16 grammars behind each other, each of which rewrites each of n small trees: 16 n firings
 
 Each is run by `run --limit 100000`; how many firings there were and how many arcs are left is compared with what is known by
 counting. Texts of equal rules, and of rules of which each has a label of its own, go through `check`, and long graphs through
@@ -23,6 +26,7 @@ those of the smallest size of the kind in the same run: a linear program stays n
 
 At the end it says which other systems that can close such grammars are installed.
 """
+import argparse
 import importlib.util
 import json
 import os
@@ -41,12 +45,12 @@ RUN = ["run", "--limit", "100000"]
 # that started it.
 def serve(orders, answers):
     for line in orders:
-        words, source, sink = json.loads(line)
+        program, words, source, sink = json.loads(line)
         child = os.fork()
         if child == 0:
             os.dup2(os.open(source, os.O_RDONLY), 0)
             os.dup2(os.open(sink, os.O_WRONLY), 1)
-            os.execv(PROGRAM, [PROGRAM] + words)
+            os.execv(program, [program] + words)
         _, status, usage = os.wait4(child, 0)
         answers.write(json.dumps([os.waitstatus_to_exitcode(status), usage.ru_utime + usage.ru_stime, usage.ru_maxrss]) + "\n")
         answers.flush()
@@ -63,10 +67,12 @@ def server():
 
 
 class Timer:
-    def __init__(self, runs):
-        self.runs = runs
-        self.orders, self.answers = server()
-        self.nothing = self.least(["check"], chain([], ["A"]))[0]
+    """Times one of the programs."""
+
+    def __init__(self, name, program, runs, orders, answers):
+        self.name, self.program, self.runs = name, program, runs
+        self.orders, self.answers = orders, answers
+        self.nothing = self.least(["run"], chain([], ["A"]))[0]
 
     def least(self, words, text):
         """The least seconds, the least peak memory in KiB, and what was written."""
@@ -76,11 +82,11 @@ class Timer:
             taken = []
             for _ in range(self.runs):
                 sink.truncate(0)
-                self.orders.write(json.dumps([words, source.name, sink.name]) + "\n")
+                self.orders.write(json.dumps([self.program, words, source.name, sink.name]) + "\n")
                 self.orders.flush()
                 status, seconds, memory = json.loads(self.answers.readline())
                 if status != 0:
-                    sys.exit("the program ended with status %d" % status)
+                    sys.exit("%s ended with status %d" % (self.program, status))
                 taken.append((seconds, memory))
             return min(s for s, _ in taken), min(m for _, m in taken), sink.read()
 
@@ -144,28 +150,35 @@ def star(n):
     return deck(["I* + I* == C."], ["-1- A%d -2-.\n-2- B%d -3-." % (i, i) for i in range(n)]), 0, 2 * n
 
 
+def cascade(n, grammars=16):
+    systems = "".join("-SYSTEME- M.\nA%d(I*) == A%d(I*).\n" % (k, k + 1) for k in range(grammars))
+    return systems + "-GRAPHE-\n-1- %s -2-.\n-FIN-\n" % " + ".join(["A0(W)"] * n), n, n
+
+
 CLOSED = (
     (made, (10, 11, 12, 13)), (amb, (9, 10, 11)), (eq, (9, 10, 11)), (split, (500, 1000, 2000)), (two, (12500, 25000, 50000)),
     (left, (1000, 2000, 4000, 8000)), (words, (1250, 2500, 5000, 10000)), (lexicon, (12500, 25000, 50000)),
-    (star, (500, 1000, 2000)))
+    (star, (500, 1000, 2000)), (cascade, (15625, 31250, 62500)))
 
 
-def closures(timer):
-    print("a deck with one label: %.4f seconds\n" % timer.nothing)
-    print("kind          n  firings  seconds      KiB  bytes written  seconds/firing  seconds/byte written")
-    for make, sizes in CLOSED:
-        first = None
+def closures(timers, kinds):
+    for timer in timers:
+        print("a deck with one label: %.4f seconds by %s" % (timer.nothing, timer.name))
+    print("\nkind          n  firings  seconds      KiB  bytes written  seconds/firing  seconds/byte written  by")
+    for make, sizes in [it for it in CLOSED if it[0].__name__ in kinds]:
+        first = {}
         for n in sizes:
             text, firings, arcs = make(n)
-            seconds, memory, written = timer.least(RUN, text)
-            lines = written.split(b"\n")
-            if lines[0] != b"# M %d" % firings or len(lines) != arcs + 4:
-                sys.exit("%s %d: not %d firings and %d arcs" % (make.__name__, n, firings, arcs))
-            each = [timer.each(seconds, count) for count in (n if make in (lexicon, star) else firings, len(written))]
-            first = first or each
-            ratios = tuple(a / b for a, b in zip(each, first))
-            row = (make.__name__, n, firings, seconds, memory, len(written)) + ratios
-            print("%-8s %6d  %7d  %7.3f  %7d  %13d  %14.2f  %20.2f" % row)
+            for timer in timers:
+                seconds, memory, written = timer.least(RUN, text)
+                # The last block is that of the last grammar; where there is one, it is the whole.
+                lines = written[written.rindex(b"# "):].split(b"\n")
+                if lines[0] != b"# M %d" % firings or len(lines) != arcs + 4:
+                    sys.exit("%s %d: not %d firings and %d arcs by %s" % (make.__name__, n, firings, arcs, timer.name))
+                each = [timer.each(seconds, count) for count in (n if make in (lexicon, star) else firings, len(written))]
+                ratios = tuple(a / b for a, b in zip(each, first.setdefault(timer, each)))
+                row = (make.__name__, n, firings, seconds, memory, len(written)) + ratios + (timer.name,)
+                print("%-8s %6d  %7d  %7.3f  %7d  %13d  %14.2f  %20.2f  %s" % row)
 
 
 def rules_of(size, line):
@@ -201,9 +214,20 @@ def table(timer, unit, command, cases, sizes):
 
 
 def main():
+    kinds = [make.__name__ for make, _ in CLOSED]
+    asked = argparse.ArgumentParser(description="Times the program on decks.")
+    asked.add_argument("runs", type=int, nargs="?", default=3)
+    asked.add_argument("--only", default=None)
+    asked.add_argument("--beside", nargs="+", default=[], metavar="PROGRAM")
+    asked = asked.parse_args()
     subprocess.run([os.path.join(TOP, "qsys"), "check"], input=chain([], ["A"]).encode(), stdout=subprocess.DEVNULL, check=True)
-    timer = Timer(int(sys.argv[1]) if len(sys.argv) > 1 else 3)
-    closures(timer)
+    programs = [("qsys", PROGRAM)] + [(os.path.basename(it) if os.path.basename(it) != "qsys" else it, os.path.abspath(it)) for it in asked.beside]
+    orders, answers = server()
+    timers = [Timer(name, program, asked.runs, orders, answers) for name, program in programs]
+    closures(timers, asked.only.split(",") if asked.only else kinds)
+    if asked.only:
+        return
+    timer = timers[0]
     table(timer, "byte", "check", (
         ("check: equal rules", equal_rules),
         ("check: each with its own label", own_labels)), [2**k for k in range(19, 23)])

@@ -6,8 +6,9 @@ use Rattle.qs_graph.specs.Graphs.{QGraph}
 use Rattle.qs_graph.specs.Chains.{chain}
 use Rattle.qs_graph.proofs.Lines.{length-chain}
 use Rattle.qs_firing.specs.Firings.{Firing}
-use Rattle.qs_firing.specs.Adding.{start_of, end_of, built}
+use Rattle.qs_firing.specs.Adding.{start_of, end_of, added}
 use Rattle.qs_firing.proofs.Building.{built_few}
+use Rattle.qs_firing.proofs.Merging.{length-added}
 use Rattle.qs_canon.specs.Rounds.{Rounds, Stage, after, after_one}
 use Rattle.qs_canon.proofs.Rounds.{length-after}
 
@@ -21,10 +22,12 @@ module _ (R : List Rule) (accepted : (rule : Rule) → rule ∈ R → IsAccepted
   one_grows n S f =
       let a = start_of S.graph.arcs f.path in
       let b = end_of S.graph.arcs f.path in
+      let ts = added R S.graph f in
       let few = built_few R accepted f in
+      let fewer = length-added R S.graph f in
       record {
-        arcs = omega (arith, few, length-append S.graph.arcs (chain a (built R f) (S.graph.nodes + 1) b), length-chain a (built R f) (S.graph.nodes + 1) b);
-        nodes = omega (arith, few);
+        arcs = omega (arith, few, fewer, length-append S.graph.arcs (chain a ts (S.graph.nodes + 1) b), length-chain a ts (S.graph.nodes + 1) b);
+        nodes = omega (arith, few, fewer);
       }
 
   after_grows : (n : ℕ) (S : Stage) (F : List Firing) → Grows S.graph (after R n S F).graph (length F)

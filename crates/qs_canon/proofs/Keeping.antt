@@ -1,6 +1,6 @@
 -- What the rounds keep: each stage is a valid graph with the entry and the exit of the start, and the path of each done
 -- firing is a path of it.
-use Rattle.std.proofs.Common.{◌≡◌, ◌⊎◌, ◌↔◌, ℕ, zero, suc, ◌+◌, ◌<◌, List, [], ◌∷◌, ◌++◌, length, map, unwrap_or, refl, sym, ◌∙◌, ap, subst, inl, inr, ⊎_elim, arith}
+use Rattle.std.proofs.Common.{◌≡◌, ◌⊎◌, ◌↔◌, ℕ, zero, suc, ◌+◌, ◌<◌, List, [], ◌∷◌, ◌++◌, length, map, Option, Some, None, unwrap_or, refl, sym, ◌∙◌, ap, subst, inl, inr, ⊎_elim, arith}
 use Rattle.std.specs.Option.{option_map}
 use Rattle.std.proofs.lemmas.List.{nil_from_length}
 use Rattle.qs_canon.proofs.Rounds.{length-after}
@@ -11,8 +11,9 @@ use Rattle.qs_graph.specs.Chains.{chain}
 use Rattle.qs_graph.proofs.Paths.{leads_more}
 use Rattle.qs_graph.proofs.Adding.{adding_valid, same_entry, same_exit}
 use Rattle.qs_firing.specs.Firings.{Firing}
-use Rattle.qs_firing.specs.Adding.{start_of, end_of, built}
+use Rattle.qs_firing.specs.Adding.{start_of, end_of, built, added, adds, met, first_arc, meets}
 use Rattle.qs_firing.proofs.Building.{built_some}
+use Rattle.qs_firing.proofs.Merging.{met-adds, unmet-adds}
 use Rattle.qs_canon.specs.Rounds.{Rounds, Stage, Done, firings, after, after_one, start}
 
 -- the path of a firing is a path over these arcs
@@ -45,6 +46,12 @@ own_path arcs f h =
     subst (λ a. IsPath arcs a f.path (end_of arcs f.path)) (sym (start_of-path arcs h.from f.path h.to h.is))
     (subst (λ b. IsPath arcs h.from f.path b) (sym (end_of-path arcs h.from f.path h.to h.is)) h.is)
 
+-- H is a valid graph with the entry and the exit of G
+record StaysAs (G H : QGraph) : Type 0 where
+  valid : IsValid H
+  entry : (n : ℕ) → IsEntry G n ↔ IsEntry H n
+  exit : (n : ℕ) → IsExit G n ↔ IsExit H n
+
 -- a stage is as it should be
 pub record Keeps (G : QGraph) (S : Stage) : Type 0 where
   pub valid : IsValid S.graph
@@ -70,19 +77,33 @@ module _ (R : List Rule) (G : QGraph) (n : ℕ) (S : Stage) (f : Firing) where
   b = end_of S.graph.arcs f.path
 
   abbrev pub new : List Arc
-  new = chain a (built R f) (S.graph.nodes + 1) b
+  new = chain a (added R S.graph f) (S.graph.nodes + 1) b
+
+  -- the graph with what is added is valid, and its entry and exit stay
+  stays : Keeps G S → HasPath S.graph.arcs f → 0 < length (built R f) → StaysAs G (adds R S.graph f)
+  stays k h some = by (met R S.graph f) refl
+    where
+      by : (o : Option ℕ) → met R S.graph f ≡ o → StaysAs G (adds R S.graph f)
+      by (Some l) e = subst (StaysAs G) (sym (met-adds R S.graph f l e)) (record { valid = k.valid; entry = k.entry; exit = k.exit })
+      by None e =
+          let p : IsPath S.graph.arcs a f.path b = own_path S.graph.arcs f h in
+          subst (StaysAs G) (sym (unmet-adds R S.graph f e)) (record {
+            valid = adding_valid S.graph k.valid a b f.path p (built R f) some;
+            entry = λ m. iff_on (k.entry m) (same_entry S.graph k.valid a b f.path p (built R f) some m);
+            exit = λ m. iff_on (k.exit m) (same_exit S.graph k.valid a b f.path p (built R f) some m);
+          })
 
   pub keeps_one : Keeps G S → HasPath S.graph.arcs f → 0 < length (built R f) → Keeps G (after_one R n S f)
   keeps_one k h some =
-      let p : IsPath S.graph.arcs a f.path b = own_path S.graph.arcs f h in
+      let s = stays k h some in
       record {
-        valid = adding_valid S.graph k.valid a b f.path p (built R f) some;
-        entry = λ m. iff_on (k.entry m) (same_entry S.graph k.valid a b f.path p (built R f) some m);
-        exit = λ m. iff_on (k.exit m) (same_exit S.graph k.valid a b f.path p (built R f) some m);
+        valid = s.valid;
+        entry = s.entry;
+        exit = s.exit;
         paths = λ g i. ⊎_elim
             (λ j. has_path_more S.graph.arcs new g (k.paths g j))
             (λ e. has_path_more S.graph.arcs new g (subst (HasPath S.graph.arcs) (sym e) h))
-            (last_cases S.done (record { firing = f; first = length S.graph.arcs; round = n }) g i);
+            (last_cases S.done (record { firing = f; first = first_arc R S.graph f; round = n; met = meets R S.graph f }) g i);
       }
 
 keeps_all : (R : List Rule) (G : QGraph) (n : ℕ) (F : List Firing) (S : Stage) → Keeps G S → ((f : Firing) → f ∈ F → HasPath S.graph.arcs f × (0 < length (built R f)))

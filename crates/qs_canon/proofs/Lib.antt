@@ -6,3 +6,4 @@ pub mod Progress
 pub mod Keeping
 pub mod Growing
 pub mod Naming
+pub mod MergingClosures

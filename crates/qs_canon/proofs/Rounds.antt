@@ -6,6 +6,7 @@ use Rattle.qs_tree.specs.Lists.{◌∈◌}
 use Rattle.qs_pattern.specs.Rules.{Rule}
 use Rattle.qs_graph.specs.Graphs.{QGraph}
 use Rattle.qs_firing.specs.Firings.{Firing}
+use Rattle.qs_firing.specs.Adding.{first_arc, meets}
 use Rattle.qs_canon.specs.Rounds.{Round, Rounds, Stage, firings, after, after_one, Closes, Needs}
 use Rattle.qs_firing.proofs.Orders.{Before-asym}
 use Rattle.qs_canon.proofs.Ascending.{same_ascending}
@@ -29,7 +30,7 @@ one_stage R G (suc n) S T (B, E, b, e, s) (C, F, c, f, t) =
 pub length-after : (R : List Rule) (n : ℕ) (S : Stage) (F : List Firing) → length (after R n S F).done ≡ length S.done + length F
 length-after R n S [] = omega arith
 length-after R n S (f ∷ fs) =
-    omega (arith, length-after R n (after_one R n S f) fs, length-append S.done (record { firing = f; first = length S.graph.arcs; round = n } ∷ []))
+    omega (arith, length-after R n (after_one R n S f) fs, length-append S.done (record { firing = f; first = first_arc R S.graph f; round = n; met = meets R S.graph f } ∷ []))
 
 -- an earlier stage has no more firings
 pub earlier : (R : List Rule) (G : QGraph) (n m : ℕ) (S T : Stage) → m ≤ n → Rounds R G n S → Rounds R G m T → length T.done ≤ length S.done

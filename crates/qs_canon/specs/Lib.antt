@@ -1,3 +1,4 @@
 pub mod Rounds
 pub mod Closures
-pub mod Codes
+pub mod Merging
+pub mod working

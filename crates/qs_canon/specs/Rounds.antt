@@ -1,14 +1,14 @@
--- Rounds, the closure, and the need of more firings than a limit. (That rules are applied until nothing more can be added
--- is Colmerauer's; the rounds and their order, which fix every number, are this project's own.)
-use Rattle.std.specs.Prelude.{ℕ, zero, suc, ◌+◌, ◌<◌, ◌≤◌, ◌≡◌, ◌⊎◌, List, [], ◌∷◌, ◌++◌, length, map}
+-- Rounds, the closure, and the need of more firings than a limit. (That rules are applied until nothing more can be
+-- added is Colmerauer's; the rounds and their order, which fix every number, are this project's own.)
+use Rattle.std.specs.Prelude.{ℕ, Bool, zero, suc, ◌+◌, ◌<◌, ◌≤◌, ◌≡◌, ◌⊎◌, List, [], ◌∷◌, ◌++◌, length, map}
 use Rattle.qs_tree.specs.Lists.{◌∈◌, Ascends}
 use Rattle.qs_pattern.specs.Rules.{Rule}
 use Rattle.qs_graph.specs.Graphs.{QGraph}
 use Rattle.qs_firing.specs.Firings.{Firing, Fires, Before}
-use Rattle.qs_firing.specs.Adding.{adds}
+use Rattle.qs_firing.specs.Adding.{adds, first_arc, meets}
 
--- A round over a graph, where some firings are done: the list, strictly ascending by key, of exactly the firings over the
--- graph that aren't done.
+-- A round over a graph, where some firings are done: the list, strictly ascending by key, of exactly the firings over
+-- the graph that aren't done.
 pub record Round (R : List Rule) (G : QGraph) (done : List Firing) (F : List Firing) : Type 0 where
   pub ascends : Ascends Before F
   pub fires : (f : Firing) → f ∈ F → Fires R G.arcs f
@@ -19,11 +19,13 @@ pub record Round (R : List Rule) (G : QGraph) (done : List Firing) (F : List Fir
 abbrev pub HasRounds : List Rule → Type 0
 HasRounds R = (G : QGraph) (done : List Firing) → (F : List Firing) × Round R G done F
 
--- A firing that is done, with the number of the first arc that it added and the number of its round.
+-- A firing that is done, with the number of the first arc of its result, the number of its round, and whether it met
+-- that arc.
 pub record Done : Type 0 where
   pub firing : Firing
   pub first : ℕ
   pub round : ℕ
+  pub met : Bool
 
 -- A graph and what was done to reach it.
 pub record Stage : Type 0 where
@@ -37,7 +39,7 @@ firings S = map (λ d. d.firing) S.done
 abbrev pub after_one : List Rule → ℕ → Stage → Firing → Stage
 after_one R n S f = record {
   graph = adds R S.graph f;
-  done = S.done ++ record { firing = f; first = length S.graph.arcs; round = n } ∷ [];
+  done = S.done ++ record { firing = f; first = first_arc R S.graph f; round = n; met = meets R S.graph f } ∷ [];
 }
 
 -- The firings of a list are done in order in round n.

@@ -2,6 +2,7 @@
 #![tactic(auto)]
 
 mod closure;
+pub mod examples;
 pub mod laws;
 
 pub use closure::{Closure, Placed};

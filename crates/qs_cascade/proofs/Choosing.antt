@@ -9,7 +9,7 @@ use Rattle.qs_pattern.specs.Conditions.{HoldsIfGiven}
 use Rattle.qs_pattern.specs.Rules.{Rule}
 use Rattle.qs_match.specs.Order.{LengthsBefore}
 use Rattle.qs_firing.specs.Firings.{Firing}
-use Rattle.qs_cascade.specs.Finding.{AreThose, firings_of}
+use Rattle.qs_cascade.specs.working.Finding.{AreThose, firings_of}
 
 module _ (P : Substitution → Type 0) where
   pub from_those : (M K : List Substitution) → AreThose P M K → (s : Substitution) → s ∈ K → (s ∈ M) × P s

@@ -6,8 +6,8 @@ use Rattle.qs_graph.specs.Graphs.{QGraph, IsValid, IsEntry, IsExit}
 use Rattle.qs_firing.specs.Firings.{Firing}
 use Rattle.qs_canon.specs.Rounds.{Done, Stage, start, after, Needs}
 use Rattle.qs_canon.proofs.Rounds.{length-after}
-use Rattle.qs_cascade.specs.Finding.{Finds, NewFiring}
-use Rattle.qs_cascade.specs.Closing.{ClosesSoon}
+use Rattle.qs_cascade.specs.working.Finding.{Finds, NewFiring}
+use Rattle.qs_cascade.specs.working.Closing.{ClosesSoon}
 use Rattle.qs_cascade.proofs.Reaching.{Reaches, reaches_start, reaches_next, round_found, needs_all, needs_more, closes_here}
 
 -- the stage before a round

@@ -2,25 +2,24 @@
 use Rattle.std.proofs.Common.{◌≡◌, ℕ, zero, suc, ◌<◌, ◌≤◌, ◌⊎◌, ◌↔◌, inl, inr, ⊎_elim, List, [], ◌∷◌, ◌++◌, length, take, get_or, refl, sym, ap, ◌∙◌, subst, arith, length-append, append-nil}
 use Rattle.qs_tree.specs.Lists.{◌∈◌, Ascends}
 use Rattle.qs_pattern.specs.Patterns.{count}
-use Rattle.qs_match.proofs.Listed.{in_left, in_right, in_either}
+use Rattle.qs_tree.proofs.Members.{in_append_left, in_append_right, from_append, in_get_or}
 use Rattle.qs_pattern.specs.Rules.{Rule}
 use Rattle.qs_graph.specs.Graphs.{Arc}
-use Rattle.qs_graph.proofs.Numbers.{in_at}
 use Rattle.qs_firing.specs.Firings.{Firing}
-use Rattle.qs_cascade.specs.Finding.{IsNewPath, Begins, HasPath}
+use Rattle.qs_cascade.specs.working.Finding.{IsNewPath, Begins, HasPath}
 
 -- in an ascending list those in front of a place are less than what is there
 pub less_in_front : (ks : List ℕ) → Ascends ◌<◌ ks → (i : ℕ) → i < length ks → (j : ℕ) → j ∈ take i ks → j < get_or ks i 0
 less_in_front [] a i h j m = absurd (omega arith)
 less_in_front (k ∷ ks) a zero h j m = absurd m
-less_in_front (k ∷ ks) a (suc i) h j (inl e) = let l = a.0 (get_or ks i 0) (in_at ks i (omega arith)) in omega arith
+less_in_front (k ∷ ks) a (suc i) h j (inl e) = let l = a.0 (get_or ks i 0) (in_get_or ks i 0 (omega arith)) in omega arith
 less_in_front (k ∷ ks) a (suc i) h j (inr m) = less_in_front ks a.1 i (omega arith) j m
 
 -- a path with one more arc is new where the path was or the arc is
 pub new_with : (old : ℕ) (path : List ℕ) (k : ℕ) → (IsNewPath old path ⊎ (old ≤ k)) ↔ IsNewPath old (path ++ k ∷ [])
 new_with old path k = (
-  λ d. ⊎_elim (λ (j, i, h). (j, in_left j path (k ∷ []) i, h)) (λ h. (k, in_right k path (k ∷ []) (inl refl), h)) d,
-  λ (j, i, h). ⊎_elim (λ m. inl (j, m, h)) (λ m. ⊎_elim (λ e. inr (omega arith)) (λ n. absurd n) m) (in_either j path (k ∷ []) i),
+  λ d. ⊎_elim (λ (j, i, h). (j, in_append_left path (k ∷ []) j i, h)) (λ h. (k, in_append_right path (k ∷ []) k (inl refl), h)) d,
+  λ (j, i, h). ⊎_elim (λ m. inl (j, m, h)) (λ m. ⊎_elim (λ e. inr (omega arith)) (λ n. absurd n) m) (from_append path (k ∷ []) j i),
 )
 
 -- ---- the end of a search for the firings of a path

@@ -7,10 +7,11 @@ use Rattle.std.specs.declared.cmp.Ordering.TheVariants.{Less, Equal}
 use Rattle.qs_tree.specs.Lists.{◌∈◌, Ascends}
 use Rattle.qs_pattern.specs.Substitutions.{forest_lengths}
 use Rattle.qs_match.specs.Order.{LengthsBefore}
-use Rattle.qs_match.proofs.Listed.{in_left, in_right, in_either, Ascends-append}
+use Rattle.qs_tree.proofs.Members.{in_append_left, in_append_right, from_append}
+use Rattle.qs_match.proofs.Listed.{Ascends-append}
 use Rattle.qs_firing.specs.Firings.{Firing, Before}
 use Rattle.qs_firing.proofs.Orders.{Before-asym}
-use Rattle.qs_cascade.specs.Finding.{Finds}
+use Rattle.qs_cascade.specs.working.Finding.{Finds}
 
 pub true_is_not_false : true ≡ false → ⊥
 true_is_not_false e = absurd cc
@@ -56,9 +57,9 @@ module _ {P Q A : Firing → Type 0} {old middle new : List Firing} {room : ℕ}
   finds_both pa qa split before x y = record {
     found = x.found ++ y.found;
     are = y.are ∙ ap (λ fs. fs ++ y.found) x.are ∙ append_assoc old x.found y.found;
-    sound = λ f i. ⊎_elim (λ j. pa f (x.sound f j)) (λ j. qa f (y.sound f j)) (in_either f x.found y.found i);
+    sound = λ f i. ⊎_elim (λ j. pa f (x.sound f j)) (λ j. qa f (y.sound f j)) (from_append x.found y.found f i);
     ascends = Ascends-append Before x.found y.found x.ascends y.ascends (λ f g i j. before f g (x.sound f i) (y.sound g j));
-    all = λ e f a. ⊎_elim (λ p. in_left f x.found y.found (x.all refl f p)) (λ q. in_right f x.found y.found (y.all e f q)) (split f a);
+    all = λ e f a. ⊎_elim (λ p. in_append_left x.found y.found f (x.all refl f p)) (λ q. in_append_right x.found y.found f (y.all e f q)) (split f a);
     more = y.more;
   }
 

@@ -5,11 +5,11 @@ use Rattle.std.specs.Cmp.Lexicographic.{slice_cmp}
 use Rattle.qs_tree.specs.Lists.{◌∈◌, Ascends}
 use Rattle.qs_pattern.specs.Patterns.{count}
 use Rattle.qs_pattern.specs.Rules.{Rule}
-use Rattle.qs_match.proofs.Listed.{in_left, in_right, in_either}
+use Rattle.qs_tree.proofs.Members.{in_append_left, in_append_right, from_append}
 use Rattle.qs_graph.specs.Graphs.{Arc, Leads, IsPath}
 use Rattle.qs_firing.specs.Firings.{Firing, Before}
-use Rattle.qs_cascade.specs.Leaving.{leaving_from, leaving}
-use Rattle.qs_cascade.specs.Finding.{Begins, GoesOn, Finds}
+use Rattle.qs_cascade.specs.working.Leaving.{leaving_from, leaving}
+use Rattle.qs_cascade.specs.working.Finding.{Begins, GoesOn, Finds}
 use Rattle.qs_cascade.proofs.Findings.{finds_both, finds_none, less_behind, before_by_path}
 
 -- ---- the arcs that leave a node
@@ -118,10 +118,10 @@ module _ (number : ℕ) (rule : Rule) (arcs : List Arc) (old : ℕ) (front : Lis
   none_tried f g = g.among
 
   goes_on_more : (js : List ℕ) (k : ℕ) (f : Firing) → GoesOn number rule arcs old front js f → GoesOn number rule arcs old front (js ++ k ∷ []) f
-  goes_on_more js k f g = record { by = g.by; new = g.new; next = g.next; among = in_left g.next js (k ∷ []) g.among; rest = g.rest; path_is = g.path_is }
+  goes_on_more js k f g = record { by = g.by; new = g.new; next = g.next; among = in_append_left js (k ∷ []) g.next g.among; rest = g.rest; path_is = g.path_is }
 
   goes_on_next : (js : List ℕ) (k : ℕ) (f : Firing) → Begins number rule arcs old (front ++ k ∷ []) f → GoesOn number rule arcs old front (js ++ k ∷ []) f
-  goes_on_next js k f b = record { by = b.by; new = b.new; next = k; among = in_right k js (k ∷ []) (inl refl); rest = b.rest; path_is = b.path_is ∙ snoc front k b.rest }
+  goes_on_next js k f b = record { by = b.by; new = b.new; next = k; among = in_append_right js (k ∷ []) k (inl refl); rest = b.rest; path_is = b.path_is ∙ snoc front k b.rest }
 
   which_next : (js : List ℕ) (k : ℕ) (f : Firing) → GoesOn number rule arcs old front (js ++ k ∷ []) f → GoesOn number rule arcs old front js f ⊎ Begins number rule arcs old (front ++ k ∷ []) f
   which_next js k f g = ⊎_elim
@@ -129,7 +129,7 @@ module _ (number : ℕ) (rule : Rule) (arcs : List Arc) (old : ℕ) (front : Lis
       (λ i. ⊎_elim
       (λ e. inr (record { by = g.by; new = g.new; rest = g.rest; path_is = g.path_is ∙ ap (λ n. front ++ (n ∷ g.rest)) e ∙ sym (snoc front k g.rest) }))
       (λ i. absurd i) i)
-      (in_either g.next js (k ∷ []) g.among)
+      (from_append js (k ∷ []) g.next g.among)
 
   in_order : (js : List ℕ) (k : ℕ) → ((j : ℕ) → j ∈ js → j < k) → (f g : Firing) → GoesOn number rule arcs old front js f → Begins number rule arcs old (front ++ k ∷ []) g → Before f g
   in_order js k low f g x y =

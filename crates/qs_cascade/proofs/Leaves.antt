@@ -11,7 +11,7 @@ use Rattle.qs_canon.proofs.Growing.{Grows, rounds_grow}
 use Rattle.qs_canon.proofs.Naming.{rounds_named}
 use Rattle.qs_clean.specs.Cleaning.{Cleans}
 use Rattle.qs_clean.proofs.Fewer.{fewer_arcs, fewer_nodes, old_tree}
-use Rattle.qs_cascade.specs.Closing.{ClosesSoon}
+use Rattle.qs_cascade.specs.working.Closing.{ClosesSoon}
 use Rattle.qs_cascade.specs.Stages.{LeavesGraph}
 
 pub leaves : (R : List Rule) (G : QGraph) (L : ℕ) (c : ClosureOf) → ClosesSoon R G L c → (firings : ℕ) → firings ≡ length c.stage.done → (H : QGraph) → Cleans c.stage H → LeavesGraph R G L firings H

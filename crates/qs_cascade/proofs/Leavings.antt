@@ -4,7 +4,7 @@ use Rattle.std.specs.declared.vec.Vec.{Vec}
 use Rattle.std.proofs.Math.ListN.{set}
 use Rattle.qs_tree.specs.Lists.{◌∈◌}
 use Rattle.qs_graph.specs.Graphs.{Arc}
-use Rattle.qs_cascade.specs.Leaving.{leaving_from, leaving, IsIndexed}
+use Rattle.qs_cascade.specs.working.Leaving.{leaving_from, leaving, IsIndexed}
 use Rattle.qs_cascade.proofs.Places.{place_in_more, place_in_set, length-set}
 
 abbrev pub leaves_if : Bool → ℕ → List ℕ

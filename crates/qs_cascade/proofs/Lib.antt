@@ -7,12 +7,15 @@ pub mod Choosing
 pub mod Paths
 pub mod Extending
 pub mod Starting
+pub mod Standing
 pub mod Together
 pub mod Laying
 pub mod Reaching
 pub mod Closings
 pub mod Taken
+pub mod Marked
 pub mod Leaves
 pub mod Additions
+pub mod Meeting
 pub mod Doing
 pub mod OneEnd

@@ -11,7 +11,7 @@ use Rattle.qs_pattern.specs.Rules.{Rule}
 use Rattle.qs_match.specs.Order.{LengthsBefore}
 use Rattle.qs_graph.specs.Graphs.{Arc, Leads, IsPath, arcs_at, trees_on}
 use Rattle.qs_firing.specs.Firings.{Firing, Before}
-use Rattle.qs_cascade.specs.Finding.{AreThose, firings_of, HasPath, Finds}
+use Rattle.qs_cascade.specs.working.Finding.{AreThose, firings_of, HasPath, Finds}
 use Rattle.qs_cascade.proofs.Findings.{before_by_lengths}
 use Rattle.qs_cascade.proofs.Choosing.{from_those, to_those, those-ascend}
 
@@ -29,6 +29,11 @@ trees_on-last arcs (j ∷ ks) k arc at = by (slice_get arcs j) (trees_on-last ar
         → map (λ (x : Arc). x.tree) (cons_option o (arcs_at arcs (ks ++ k ∷ []))) ≡ map (λ (x : Arc). x.tree) (cons_option o (arcs_at arcs ks)) ++ arc.tree ∷ []
     by None e = e
     by (Some x) e = ap (λ ts. x.tree ∷ ts) e
+
+pub trees_on-one : (arcs : List Arc) (ks : List ℕ) (arc : Arc) → length ks ≡ 1 → slice_get arcs (get_or ks 0 0) ≡ Some arc → trees_on arcs ks ≡ arc.tree ∷ []
+trees_on-one arcs [] arc e at = absurd (omega arith)
+trees_on-one arcs (k ∷ []) arc e at = trees_on-last arcs [] k arc at
+trees_on-one arcs (k ∷ j ∷ ks) arc e at = absurd (omega arith)
 
 pub trees_on-more : (arcs : List Arc) (ks : List ℕ) (i : ℕ) (arc : Arc) → i < length ks → slice_get arcs (get_or ks i 0) ≡ Some arc → trees_on arcs (take (i + 1) ks) ≡ trees_on arcs (take i ks) ++ arc.tree ∷ []
 trees_on-more arcs ks i arc h at = ap (trees_on arcs) (take_more ks i 0 h) ∙ trees_on-last arcs (take i ks) (get_or ks i 0) arc at

@@ -6,17 +6,17 @@ use Rattle.qs_tree.specs.Lists.{◌∈◌}
 use Rattle.qs_tree.specs.Trees.{Tree}
 use Rattle.qs_pattern.specs.Instances.{IsMatch}
 use Rattle.qs_pattern.specs.Rules.{Rule, AreLeftSidesInClass}
-use Rattle.qs_match.proofs.Listed.{in_left, in_right, in_either}
+use Rattle.qs_tree.proofs.Members.{in_append_left, in_append_right, from_append}
 use Rattle.qs_graph.specs.Graphs.{Arc, QGraph, Leads, arcs_at, trees_on}
 use Rattle.qs_graph.specs.Chains.{chain}
 use Rattle.qs_graph.proofs.Paths.{leads_more}
 use Rattle.qs_firing.specs.Firings.{Firing, Fires}
-use Rattle.qs_firing.specs.Adding.{start_of, end_of, built}
+use Rattle.qs_firing.specs.Adding.{start_of, end_of, added, first_arc, meets}
 use Rattle.qs_canon.specs.Rounds.{Round, Rounds, Done, Stage, firings, after, after_one, start, Closes, Needs}
 use Rattle.qs_canon.proofs.Rounds.{length-after}
 use Rattle.qs_canon.proofs.Existence.{has_rounds}
 use Rattle.qs_clean.proofs.Closures.{leads_within}
-use Rattle.qs_cascade.specs.Finding.{IsNewPath, NewFiring, Finds}
+use Rattle.qs_cascade.specs.working.Finding.{IsNewPath, NewFiring, Finds}
 use Rattle.qs_cascade.proofs.Findings.{fewer}
 
 -- S is what n rounds reach, and its done firings are those over its first `old` arcs
@@ -94,14 +94,14 @@ module _ (arcs more : List Arc) where
 -- ---- what a round leaves
 
 -- the arcs that a firing adds
-abbrev added : List Rule → Stage → Firing → List Arc
-added R S f = chain (start_of S.graph.arcs f.path) (built R f) (S.graph.nodes + 1) (end_of S.graph.arcs f.path)
+abbrev new_arcs : List Rule → Stage → Firing → List Arc
+new_arcs R S f = chain (start_of S.graph.arcs f.path) (added R S.graph f) (S.graph.nodes + 1) (end_of S.graph.arcs f.path)
 
 pub arcs_after : (R : List Rule) (n : ℕ) (S : Stage) (F : List Firing) → (more : List Arc) × ((after R n S F).graph.arcs ≡ S.graph.arcs ++ more)
 arcs_after R n S [] = ([], sym (append-nil S.graph.arcs))
 arcs_after R n S (f ∷ fs) =
     let (more, e) = arcs_after R n (after_one R n S f) fs in
-    (added R S f ++ more, e ∙ append_assoc S.graph.arcs (added R S f) more)
+    (new_arcs R S f ++ more, e ∙ append_assoc S.graph.arcs (new_arcs R S f) more)
 
 firings_one : (ds : List Done) (d : Done) → map (λ (x : Done). x.firing) (ds ++ d ∷ []) ≡ map (λ (x : Done). x.firing) ds ++ d.firing ∷ []
 firings_one [] d = refl
@@ -110,7 +110,7 @@ firings_one (c ∷ ds) d = ap (λ fs. c.firing ∷ fs) (firings_one ds d)
 pub firings_after : (R : List Rule) (n : ℕ) (S : Stage) (F : List Firing) → firings (after R n S F) ≡ firings S ++ F
 firings_after R n S [] = sym (append-nil (firings S))
 firings_after R n S (f ∷ fs) =
-    firings_after R n (after_one R n S f) fs ∙ ap (λ gs. gs ++ fs) (firings_one S.done (record { firing = f; first = length S.graph.arcs; round = n })) ∙ append_assoc (firings S) (f ∷ []) fs
+    firings_after R n (after_one R n S f) fs ∙ ap (λ gs. gs ++ fs) (firings_one S.done (record { firing = f; first = first_arc R S.graph f; round = n; met = meets R S.graph f })) ∙ append_assoc (firings S) (f ∷ []) fs
 
 -- ---- from round to round
 
@@ -147,11 +147,11 @@ module _ {R : List Rule} {G : QGraph} {n old : ℕ} {S : Stage} where
       by (more, e) = record {
         rounds = (S, F, r.rounds, x, refl);
         done_are = λ f i.
-            let y = ⊎_elim (λ d. (r.done_are f d).0) (x.fires f) (in_either f (firings S) F (subst (λ (fs : List Firing). f ∈ fs) (firings_after R (suc n) S F) i)) in
+            let y = ⊎_elim (λ d. (r.done_are f d).0) (x.fires f) (from_append (firings S) F f (subst (λ (fs : List Firing). f ∈ fs) (firings_after R (suc n) S F) i)) in
             (subst (λ (arcs : List Arc). Fires R arcs f) (sym e) (still_fires S.graph.arcs more R f y), never_new R S.graph.arcs f y);
         are_done = λ f y not_new.
             let z = fired_before S.graph.arcs more R f (subst (λ (arcs : List Arc). Fires R arcs f) e y) (below_old (length S.graph.arcs) f.path not_new) in
-            subst (λ (fs : List Firing). f ∈ fs) (sym (firings_after R (suc n) S F)) (⊎_elim (in_left f (firings S) F) (in_right f (firings S) F) (x.all f z));
+            subst (λ (fs : List Firing). f ∈ fs) (sym (firings_after R (suc n) S F)) (⊎_elim (in_append_left (firings S) F f) (in_append_right (firings S) F f) (x.all f z));
       }
 
   pub reaches_next : {F : List Firing} {T : Stage} → Reaches R G n old S → Round R S.graph (firings S) F → T ≡ after R (suc n) S F → Reaches R G (suc n) (length S.graph.arcs) T

@@ -7,18 +7,19 @@ use Rattle.qs_tree.specs.Trees.{Tree as LabelledTree, kids, node}
 use Rattle.qs_pattern.specs.declared.variable.Var.{Var}
 use Rattle.qs_pattern.specs.declared.pattern.Head.{Head}
 use Rattle.qs_pattern.specs.declared.pattern.Pattern.{Pattern, Node, Node', Tree, Forest}
-use Rattle.qs_pattern.specs.Patterns.{Patterns, pattern_before, patterns, one_pattern, variables_in, head_variables, AreInClass, NoForestAtTop}
+use Rattle.qs_pattern.specs.Patterns.{Patterns, pattern_before, patterns, variables_in, head_variables, AreInClass, NoForestAtTop}
+use Rattle.qs_pattern.specs.working.Patterns.{one_pattern}
 use Rattle.qs_pattern.specs.Substitutions.{Substitution}
 use Rattle.qs_pattern.specs.Instances.{inst, label_of, tree_in}
 use Rattle.qs_pattern.proofs.InstanceLemmas.{inst-Node, inst-pattern_before, single_parts}
 use Rattle.qs_pattern.proofs.VariableLemmas.{HasValue}
 use Rattle.qs_pattern.proofs.Reading.{tree_of_var}
 use Rattle.qs_pattern.proofs.MatchLemmas.{matched_value}
-use Rattle.qs_match.proofs.Listed.{in_left, in_right, in_either}
+use Rattle.qs_tree.proofs.Members.{in_append_left, in_append_right, from_append}
 use Rattle.qs_pattern.specs.Rules.{Rule}
 use Rattle.qs_graph.specs.Graphs.{Arc, Leads, arcs_at, trees_on}
 use Rattle.qs_firing.specs.Firings.{Firing}
-use Rattle.qs_cascade.specs.Finding.{Begins}
+use Rattle.qs_cascade.specs.working.Finding.{Begins}
 
 -- a node without patterns below stands for a tree without subtrees
 pub no_kids : (s : Substitution) (h : Head) (ks : Vec Pattern Global) (p : Pattern) (t : LabelledTree) → p ≡ Node h ks → length ks.items ≡ 0 → inst s (one_pattern p) ≡ t ∷ [] → kids t ≡ []
@@ -49,9 +50,9 @@ module _ (s : Substitution) where
   first_class (Forest v) ps c = ((c.0, tt), c.1)
 
   first_variables : (p : Pattern) (ps : Patterns) (v : Var) → v ∈ variables_in (one_pattern p) → v ∈ variables_in (pattern_before p ps)
-  first_variables (Node' h shape ks) ps v i = elim (in_either v (head_variables h) _ i) [
-    | inl j ↦ in_left v (head_variables h) _ j
-    | inr j ↦ in_right v (head_variables h) _ (elim (in_either v _ [] j) [ inl k ↦ in_left v _ (variables_in ps) k | inr k ↦ absurd k ])
+  first_variables (Node' h shape ks) ps v i = elim (from_append (head_variables h) _ v i) [
+    | inl j ↦ in_append_left (head_variables h) _ v j
+    | inr j ↦ in_append_right (head_variables h) _ v (elim (from_append _ [] v j) [ inl k ↦ in_append_left _ (variables_in ps) v k | inr k ↦ absurd k ])
   ]
   first_variables (Tree w) ps v (inl e) = inl e
   first_variables (Tree w) ps v (inr i) = absurd i
@@ -59,7 +60,7 @@ module _ (s : Substitution) where
   first_variables (Forest w) ps v (inr i) = absurd i
 
   other_variables : (p : Pattern) (ps : Patterns) (v : Var) → v ∈ variables_in ps → v ∈ variables_in (pattern_before p ps)
-  other_variables (Node' h shape ks) ps v i = in_right v (head_variables h) _ (in_right v _ (variables_in ps) i)
+  other_variables (Node' h shape ks) ps v i = in_append_right (head_variables h) _ v (in_append_right _ (variables_in ps) v i)
   other_variables (Tree w) ps v i = inr i
   other_variables (Forest w) ps v i = inr i
 

@@ -7,7 +7,7 @@ use Rattle.qs_pattern.specs.Patterns.{count}
 use Rattle.qs_pattern.specs.Rules.{Rule}
 use Rattle.qs_graph.specs.Graphs.{Arc, Leads}
 use Rattle.qs_firing.specs.Firings.{Firing}
-use Rattle.qs_cascade.specs.Finding.{numbers_of, numbers, Begins, GoesOn}
+use Rattle.qs_cascade.specs.working.Finding.{numbers_of, numbers, Begins, GoesOn}
 
 numbers_of-more : (a n : ℕ) → numbers_of a (suc n) ≡ numbers_of a n ++ (a + n) ∷ []
 numbers_of-more a zero = let e : a ≡ a + 0 = omega arith in ap (λ k. k ∷ []) e

@@ -5,7 +5,7 @@ use Rattle.std.proofs.lemmas.Option.{slice_get_within}
 use Rattle.qs_pattern.specs.Rules.{Rule}
 use Rattle.qs_graph.specs.Graphs.{Arc}
 use Rattle.qs_firing.specs.Firings.{Firing}
-use Rattle.qs_cascade.specs.Finding.{FiresBy, Begins, NewFiring, Finds}
+use Rattle.qs_cascade.specs.working.Finding.{FiresBy, Begins, NewFiring, Finds}
 use Rattle.qs_cascade.proofs.Findings.{finds_both, before_by_rule}
 
 -- a new firing of one of the first so many rules

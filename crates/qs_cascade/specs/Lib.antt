@@ -1,4 +1,2 @@
-pub mod Leaving
-pub mod Finding
-pub mod Closing
 pub mod Stages
+pub mod working

@@ -1,8 +1,8 @@
 -- How a grammar ends.
 use Rattle.std.specs.Prelude.{ℕ, ◌≡◌, ◌≤◌, ◌<◌, ◌+◌, ◌*◌, List, [], length}
-use Rattle.qs_pattern.specs.Limits.{most_patterns}
 use Rattle.qs_tree.specs.Lists.{◌∈◌}
 use Rattle.qs_tree.specs.Text.{IsNamed}
+use Rattle.qs_pattern.specs.Limits.{most_patterns}
 use Rattle.qs_pattern.specs.Rules.{Rule}
 use Rattle.qs_pattern.specs.Named.{ArePatternsNamed}
 use Rattle.qs_graph.specs.Graphs.{Arc, QGraph}
@@ -28,7 +28,8 @@ IsStageEnd R G L end.Over = Needs R G L
 
 -- A graph that is left has, for each of L firings, at most `most_patterns` arcs and nodes more than G.
 abbrev pub GrowsWithin : QGraph → ℕ → StageEnd → Type 0
-GrowsWithin G L (end.Left graph firings) = (length graph.arcs ≤ length G.arcs + most_patterns * L) × (graph.nodes ≤ G.nodes + most_patterns * L)
+GrowsWithin G L (end.Left graph firings) =
+    (length graph.arcs ≤ length G.arcs + most_patterns * L) × (graph.nodes ≤ G.nodes + most_patterns * L)
 GrowsWithin G L (end.Empty firings) = Unit {0}
 GrowsWithin G L end.Over = Unit {0}
 
@@ -38,8 +39,9 @@ IsEndNamed n (end.Left graph firings) = (arc : Arc) → arc ∈ graph.arcs → I
 IsEndNamed n (end.Empty firings) = Unit {0}
 IsEndNamed n end.Over = Unit {0}
 
--- The end has no labels but those of the graph and of the rules' right sides: where all of these are among the first n, so
--- are those in a graph that is left.
+-- The end has no labels but those of the graph and of the rules' right sides: where all of these are among the first n,
+-- so are those in a graph that is left.
 abbrev pub MakesNoLabels : List Rule → QGraph → StageEnd → Type 0
 MakesNoLabels R G e =
-    (n : ℕ) → ((rule : Rule) → rule ∈ R → ArePatternsNamed n rule.right) → ((arc : Arc) → arc ∈ G.arcs → IsNamed n arc.tree) → IsEndNamed n e
+    (n : ℕ) → ((rule : Rule) → rule ∈ R → ArePatternsNamed n rule.right)
+    → ((arc : Arc) → arc ∈ G.arcs → IsNamed n arc.tree) → IsEndNamed n e

@@ -1,15 +1,25 @@
 //! A graph that grows, with the arcs that leave each node.
 
-ghost use Rattle.std.specs.Prelude.{◌≡◌, ◌<◌, ◌≤◌, ◌+◌, ◌-◌, ◌^◌, ◌++◌, ◌∷◌, [], length, IfOk, OnOk, OnErr, Some, slice_get};
+ghost use Rattle.std.specs.Prelude.{◌≡◌, ◌<◌, ◌≤◌, ◌+◌, ◌-◌, ◌^◌, ◌++◌, ◌∷◌, [], ◌↔◌, length, IsTrue, IfOk, OnOk};
+ghost use Rattle.std.specs.Prelude.{OnErr, Some, slice_get};
+ghost use Rattle.qs_tree.specs.Cells.{tree_of};
 ghost use Rattle.qs_graph.specs.Graphs.{IsNode};
 ghost use Rattle.qs_graph.specs.Chains.{with_chain};
-ghost use Rattle.qs_cascade.specs.Leaving.{leaving};
+ghost use Rattle.qs_firing.specs.Adding.{least_arc};
+ghost use Rattle.qs_cascade.specs.working.Leaving.{leaving};
 
 use qs_canon::{Closure, Placed};
 use qs_graph::{Edge, Graph};
-use qs_tree::Tree;
+use qs_tree::{Tree, TreeRef, same};
 use std::alloc::{AllocError, Global};
 use std::marker::Model;
+
+// Whether the arc ends at this node and carries this tree.
+fn ends_with(edge: &Edge, to: u32, tree: TreeRef<'_>) -> bool
+    ensures { IsTrue result ↔ ((edge.now.to ≡ to) × (edge.now.tree ≡ tree_of tree.entry.cells.now)) }
+{
+    edge.to == to && same(edge.tree.view(), tree)
+}
 
 /// A graph whose nodes and arcs only become more. For each node there is the list of the arcs that leave it.
 #[derive(Drop)]
@@ -22,14 +32,14 @@ pub struct Arcs {
 
 impl Model for Arcs {
     ghost use Rattle.qs_graph.specs.Graphs.{QGraph};
-    ghost use Rattle.qs_graph.specs.Codes.{graph_code};
+    ghost use Rattle.qs_graph.specs.working.Codes.{graph_code};
 
     ghost Value = { QGraph };
 
     ghost coded = { graph_code };
 
     ghost use Rattle.std.specs.Prelude.{◌-◌, length};
-    ghost use Rattle.qs_cascade.specs.Leaving.{IsIndexed};
+    ghost use Rattle.qs_cascade.specs.working.Leaving.{IsIndexed};
 
     ghost view = { λ a. record { nodes = length a.leaving.items - 1; arcs = a.edges.items } };
 
@@ -37,7 +47,7 @@ impl Model for Arcs {
 }
 
 impl Arcs {
-    /// The nodes and the arcs of a graph.
+    /// The nodes and the arcs of a graph, which own the same trees. No tree is copied.
     pub fn of(alloc: Global, graph: &Graph) -> Result<Arcs, AllocError>
         ensures { IfOk result (λ a. a ≡ graph.now) }
     {
@@ -102,6 +112,20 @@ impl Arcs {
         &self.leaving[node as usize]
     }
 
+    /// The least arc that leads from one node to another and carries this tree. It is looked for among the arcs that
+    /// leave the first node.
+    pub fn least(&self, from: u32, to: u32, tree: TreeRef<'_>) -> Option<u32>
+        requires { from ≤ self.now.nodes }
+        ensures { result ≡ least_arc self.now.arcs from to (tree_of tree.entry.cells.now) }
+    {
+        for arc in self.leaving(from) {
+            if ends_with(self.edge(*arc), to, tree) {
+                return Some(*arc);
+            }
+        }
+        None
+    }
+
     /// One more node.
     pub fn add_node(&mut self) -> Result<(), AllocError>
         requires { self.old.nodes < 2 ^ 32 - 1 }
@@ -133,7 +157,8 @@ impl Arcs {
 }
 
 impl Arcs {
-    /// A chain of the trees from one node to another, through new nodes. After an error some of it may be there.
+    /// A chain of the trees from one node to another, through new nodes. Each tree becomes that of its arc, and is
+    /// never copied again. After an error some of the chain may be there.
     pub fn add_chain(&mut self, from: u32, to: u32, trees: Vec<Tree>) -> Result<(), AllocError>
         requires from { IsNode self.old from }
         requires to { IsNode self.old to }
@@ -147,11 +172,7 @@ impl Arcs {
         for tree in trees {
             left -= 1;
             let end = self.next_node(left, to)?;
-            self.push(Edge {
-                from: at,
-                to: end,
-                tree,
-            })?;
+            self.push(Edge::new(self.alloc, at, end, tree)?)?;
             at = end;
         }
         Ok(())
@@ -161,7 +182,8 @@ impl Arcs {
     fn next_node(&mut self, left: usize, last: u32) -> Result<u32, AllocError>
         requires { self.old.nodes < 2 ^ 32 - 1 }
         ensures last { left ≡ 0 → IfOk result (λ n. (n ≡ last) × (self.new ≡ self.old)) }
-        ensures inner { 0 < left → IfOk result (λ n. (n ≡ self.old.nodes + 1) × (self.new ≡ record self.old { nodes = self.old.nodes + 1 })) }
+        ensures inner { 0 < left → IfOk result (λ n. (n ≡ self.old.nodes + 1)
+            × (self.new ≡ record self.old { nodes = self.old.nodes + 1 })) }
     {
         if left == 0 {
             return Ok(last);
@@ -172,7 +194,12 @@ impl Arcs {
 
     /// The closure with these firings, where the graph that it started from has this entry, this exit and so many arcs.
     pub fn into_closure(self, entry: u32, exit: u32, start: u32, firings: Vec<Placed>) -> Closure
-        ensures { result ≡ record { stage = record { graph = self; done = firings.items }; entry = entry; exit = exit; start = start } }
+        ensures { result ≡ record {
+          stage = record { graph = self; done = firings.items };
+          entry = entry;
+          exit = exit;
+          start = start;
+        } }
     {
         let nodes = self.nodes();
         let Arcs { edges, .. } = self;

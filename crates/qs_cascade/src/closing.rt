@@ -3,8 +3,8 @@
 ghost use Rattle.std.specs.Prelude.{◌≡◌, ◌<◌, ◌≤◌, ◌+◌, ◌-◌, ◌*◌, ◌^◌, length, IfOk};
 ghost use Rattle.qs_pattern.specs.Limits.{most_patterns};
 ghost use Rattle.qs_tree.specs.Lists.{◌∈◌};
-ghost use Rattle.qs_pattern.specs.Rules.{Rule as RuleOfPatterns, IsAccepted};
-ghost use Rattle.qs_cascade.specs.Closing.{ClosesOrNeeds};
+ghost use Rattle.qs_pattern.specs.Rules.{Rule as RuleOfPatterns, IsAccepted, all_unique};
+ghost use Rattle.qs_cascade.specs.working.Closing.{ClosesOrNeeds};
 
 use crate::adding::do_round;
 use crate::arcs::Arcs;
@@ -14,18 +14,21 @@ use qs_graph::Graph;
 use qs_pattern::Rule;
 use std::alloc::{AllocError, Global};
 
-// Every rule is an accepted one, by its type.
-fn know_accepted(rules: &[Rule])
-    ensures { (rule : RuleOfPatterns) → rule ∈ rules.now → IsAccepted rule }
+// Whether the rules are all marked unique. Each of them is an accepted one, by its type.
+fn are_unique(rules: &[Rule]) -> bool
+    ensures value { result ≡ all_unique rules.now }
+    ensures accepted { (rule : RuleOfPatterns) → rule ∈ rules.now → IsAccepted rule }
 {
+    let mut all = true;
     for rule in rules {
-        let _left = rule.left();
+        all &= rule.unique();
     }
+    all
 }
 
 /// The closure of the rules from a graph, round by round, as the rounds are defined; or None where the rules need more
-/// firings than the limit. The limit is at least 1, and the numbers of arcs and of nodes of the graph, each with 16 times
-/// the limit, fit a `u32`.
+/// firings than the limit. The limit is at least 1, and the numbers of arcs and of nodes of the graph, each with 16
+/// times the limit, fit a `u32`.
 pub fn closure(
     alloc: Global,
     rules: &[Rule],
@@ -38,7 +41,7 @@ pub fn closure(
     requires nodes { start.now.nodes + most_patterns * limit ≤ 2 ^ 32 - 1 }
     ensures { IfOk result (λ c. ClosesOrNeeds rules.now start.now limit c) }
 {
-    know_accepted(rules);
+    let unique = are_unique(rules);
     let mut arcs = Arcs::of(alloc, start)?;
     let mut done = Vec::new(alloc);
     let mut old = 0;
@@ -59,6 +62,6 @@ pub fn closure(
         }
         old = arcs.len();
         round += 1;
-        do_round(alloc, rules, &mut arcs, &mut done, found, round)?;
+        do_round(alloc, rules, unique, &mut arcs, &mut done, found, round)?;
     }
 }

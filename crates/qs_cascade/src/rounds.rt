@@ -1,7 +1,7 @@
 //! The rounds of a grammar, as they are defined: each takes all firings over the graph so far that aren't done.
 
 ghost use Rattle.std.specs.Prelude.{◌≡◌, ◌<◌, ◌≤◌, ◌+◌, ◌-◌, ◌*◌, ◌^◌, length, IfOk, OnOk, Option, Some, slice_get};
-ghost use Rattle.qs_cascade.specs.Finding.{FindsRound};
+ghost use Rattle.qs_cascade.specs.working.Finding.{FindsRound};
 
 use crate::arcs::Arcs;
 use crate::search::{Search, find_firings};
@@ -9,8 +9,8 @@ use qs_firing::Firing;
 use qs_pattern::Rule;
 use std::alloc::{AllocError, Global};
 
-/// All firings over the graph whose path has an arc of the last round, ascending; or None where there are more than there
-/// is room for. The first `old` arcs are those that stood before the last round.
+/// All firings over the graph whose path has an arc of the last round, ascending; or None where there are more than
+/// there is room for. The first `old` arcs are those that stood before the last round.
 pub fn new_firings(
     alloc: Global,
     rules: &[Rule],

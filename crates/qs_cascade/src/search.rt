@@ -1,15 +1,18 @@
 //! The new firings of one rule: those whose path has an arc of the last round.
 
-ghost use Rattle.std.specs.Prelude.{◌≡◌, ◌<◌, ◌≤◌, ◌+◌, ◌^◌, ◌++◌, ◌∷◌, ◌↔◌, ◌⊎◌, [], ℕ, List, length, IsTrue, IfOk, OnOk, slice_get, Some};
-ghost use Rattle.qs_tree.specs.Lists.{◌∈◌};
+ghost use Rattle.std.specs.Prelude.{◌≡◌, ◌<◌, ◌≤◌, ◌+◌, ◌^◌, ◌++◌, ◌∷◌, ◌↔◌, ◌⊎◌, [], ℕ, List, length, IsTrue, IfOk};
+ghost use Rattle.std.specs.Prelude.{OnOk, slice_get, Some};
+ghost use Rattle.qs_tree.specs.Lists.{◌∈◌, Ascends};
 ghost use Rattle.qs_tree.specs.Trees.{Tree};
 ghost use Rattle.qs_tree.specs.Cells.{tree_of};
-ghost use Rattle.qs_pattern.specs.Patterns.{one_pattern, count};
+ghost use Rattle.qs_pattern.specs.Patterns.{count};
+ghost use Rattle.qs_pattern.specs.working.Patterns.{one_pattern};
 ghost use Rattle.qs_pattern.specs.Substitutions.{Substitution};
 ghost use Rattle.qs_pattern.specs.Instances.{inst, IsMatch};
 ghost use Rattle.qs_pattern.specs.Conditions.{HoldsIfGiven};
+ghost use Rattle.qs_match.specs.Order.{LengthsBefore};
 ghost use Rattle.qs_graph.specs.Graphs.{Leads, IsPath, IsNode, trees_on};
-ghost use Rattle.qs_cascade.specs.Finding.{Finds, AreThose, firings_of, HasPath, Begins, IsNewPath};
+ghost use Rattle.qs_cascade.specs.working.Finding.{Finds, AreThose, firings_of, HasPath, Begins, IsNewPath};
 
 use crate::arcs::Arcs;
 use qs_firing::Firing;
@@ -18,8 +21,8 @@ use qs_pattern::{Head, Pattern, Rule, Subst, holds};
 use qs_tree::{Forest, TreeRef};
 use std::alloc::{AllocError, Global};
 
-/// Where firings are looked for: a rule and its number, the graph, the number of arcs that it had before the last round,
-/// and how many firings may be found. One more ends the search.
+/// Where firings are looked for: a rule and its number, the graph, the number of arcs that it had before the last
+/// round, and how many firings may be found. One more ends the search.
 #[derive(Clone, Copy)]
 pub struct Search<'a> {
     pub number: u32,
@@ -31,7 +34,8 @@ pub struct Search<'a> {
 
 // Whether the roots alone show that the pattern doesn't stand for the tree.
 fn refuses(pattern: &Pattern, tree: TreeRef<'_>) -> bool
-    ensures { IsTrue result → (s : Substitution) → inst s (one_pattern pattern.now) ≡ tree_of tree.entry.cells.now ∷ [] → ⊥ }
+    ensures { IsTrue result → (s : Substitution) → inst s (one_pattern pattern.now) ≡ tree_of tree.entry.cells.now ∷ []
+        → ⊥ }
 {
     match pattern {
         Pattern::Node { head, kids } => {
@@ -93,8 +97,10 @@ fn add_matches(
     matches: Vec<Subst>,
     found: &mut Vec<Firing>,
 ) -> Result<(), AllocError>
-    requires { (trees : List Tree) × ((s : Substitution) → s ∈ matches.items → IsMatch search.now.rule.now.left trees s) }
-    ensures { OnOk result ((those : List Substitution) × AreThose (HoldsIfGiven search.now.rule.now.condition) matches.items those × (found.new.items ≡ found.old.items ++ firings_of search.now.number path.now those)) }
+    requires { (trees : List Tree)
+        × ((s : Substitution) → s ∈ matches.items → IsMatch search.now.rule.now.left trees s) }
+    ensures { OnOk result ((those : List Substitution) × AreThose (HoldsIfGiven search.now.rule.now.condition)
+        matches.items those × (found.new.items ≡ found.old.items ++ firings_of search.now.number path.now those)) }
 {
     for subst in matches {
         if !allows(alloc, search.rule, &subst)? {
@@ -110,6 +116,28 @@ fn add_matches(
     Ok(())
 }
 
+// The matches of the rule's left side with the trees on a path. The tree of a path of one arc is not copied.
+fn matches_on_path(
+    alloc: Global,
+    search: &Search<'_>,
+    path: &[u32],
+) -> Result<Vec<Subst>, AllocError>
+    requires { (a : ℕ) × (b : ℕ) × Leads search.now.arcs.now.arcs a path.now b }
+    ensures sound { IfOk result (λ v. (s : Substitution) → s ∈ v.items
+        → IsMatch search.now.rule.now.left (trees_on search.now.arcs.now.arcs path.now) s) }
+    ensures all { IfOk result (λ v. (s : Substitution)
+        → IsMatch search.now.rule.now.left (trees_on search.now.arcs.now.arcs path.now) s → s ∈ v.items) }
+    ensures ascending { IfOk result (λ v. Ascends LengthsBefore v.items) }
+{
+    let side = search.rule.left();
+    if let [arc] = path {
+        let tree = search.arcs.edge(*arc).tree.view();
+        return all_matches(alloc, side, tree.alone());
+    }
+    let trees = trees_on_path(alloc, search.arcs, path)?;
+    all_matches(alloc, side, trees.view())
+}
+
 // The firings of the rule on one path.
 fn fire(
     alloc: Global,
@@ -119,10 +147,10 @@ fn fire(
 ) -> Result<bool, AllocError>
     requires path { (a : ℕ) × (b : ℕ) × IsPath search.now.arcs.now.arcs a path.now b }
     requires long { length path.now ≡ count search.now.rule.now.left }
-    ensures { IfOk result (λ complete. Finds (HasPath search.now.number search.now.rule.now search.now.arcs.now.arcs path.now) found.old.items found.new.items search.now.room complete) }
+    ensures { IfOk result (λ complete. Finds (HasPath search.now.number search.now.rule.now search.now.arcs.now.arcs
+        path.now) found.old.items found.new.items search.now.room complete) }
 {
-    let trees = trees_on_path(alloc, search.arcs, path)?;
-    let matches = all_matches(alloc, search.rule.left(), trees.view())?;
+    let matches = matches_on_path(alloc, search, path)?;
     add_matches(alloc, search, path, matches, found)?;
     Ok(found.len() <= search.room)
 }
@@ -140,7 +168,8 @@ fn extend(
     requires node { IsNode search.now.arcs.now at }
     requires short { length path.now ≤ count search.now.rule.now.left }
     requires new { IsTrue new ↔ IsNewPath search.now.old path.now }
-    ensures { IfOk result (λ complete. Finds (Begins search.now.number search.now.rule.now search.now.arcs.now.arcs search.now.old path.now) found.old.items found.new.items search.now.room complete) }
+    ensures { IfOk result (λ complete. Finds (Begins search.now.number search.now.rule.now search.now.arcs.now.arcs
+        search.now.old path.now) found.old.items found.new.items search.now.room complete) }
 {
     let Some(pattern) = search.rule.left().get(path.len()) else {
         return if new {
@@ -177,7 +206,8 @@ pub fn find_firings(
     search: &Search<'_>,
     found: &mut Vec<Firing>,
 ) -> Result<bool, AllocError>
-    ensures { IfOk result (λ complete. Finds (Begins search.now.number search.now.rule.now search.now.arcs.now.arcs search.now.old []) found.old.items found.new.items search.now.room complete) }
+    ensures { IfOk result (λ complete. Finds (Begins search.now.number search.now.rule.now search.now.arcs.now.arcs
+        search.now.old []) found.old.items found.new.items search.now.room complete) }
 {
     let left = search.rule.left();
     let Some(pattern) = left.first() else {

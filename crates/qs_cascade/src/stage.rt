@@ -19,10 +19,10 @@ pub enum StageEnd {
     Over,
 }
 
-/// Runs one grammar on a graph, alone: the closure of its rules, round by round, and what cleaning leaves of it. The limit
-/// is at least 1, and the numbers of arcs and of nodes of the graph, each with 16 times the limit, fit a `u32`. A graph that
-/// is left has no more than these numbers, and no labels but those of the graph and of the rules' right sides. It always
-/// returns.
+/// Runs one grammar on a graph, alone: the closure of its rules, round by round, and what cleaning leaves of it. The
+/// limit is at least 1, and the numbers of arcs and of nodes of the graph, each with 16 times the limit, fit a `u32`. A
+/// graph that is left has no more than these numbers, and no labels but those of the graph and of the rules' right
+/// sides. It always returns.
 pub fn stage_alone(
     alloc: Global,
     rules: &[Rule],

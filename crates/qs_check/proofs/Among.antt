@@ -1,9 +1,10 @@
 -- Variables among others, and among the cells in front of a place.
 use Rattle.std.proofs.Common.{◌≡◌, ℕ, ◌+◌, ◌<◌, ◌≤◌, ◌⊎◌, inl, inr, ⊎_elim, Bool, true, false, List, [], ◌∷◌, ◌++◌, length, take, get_or, refl, sym, ◌∙◌, ap, subst, append_assoc, append-nil, arith, length-append}
-use Rattle.std.specs.Prelude.{◌||◌, if◌then◌else◌, Some, slice_get}
+use Rattle.std.specs.Prelude.{◌||◌, if◌then◌else◌}
+use Rattle.std.proofs.lemmas.Bool.{false_from_ne_true}
 use Rattle.std.proofs.lemmas.List.{take_more}
-use Rattle.std.proofs.lemmas.Option.{slice_get-get_or}
 use Rattle.qs_tree.specs.Lists.{◌∈◌}
+use Rattle.qs_tree.proofs.Members.{from_append}
 use Rattle.qs_pattern.specs.declared.variable.Var.{Var}
 use Rattle.qs_pattern.specs.declared.pattern.Head.{Head}
 use Rattle.qs_pattern.specs.declared.pattern.Head.TheVariants as head
@@ -13,9 +14,6 @@ use Rattle.qs_pattern.proofs.VariableLemmas.{same_var-true, same_var-refl}
 use Rattle.qs_pattern.proofs.FirstOccurrences.{is_among, firsts-last}
 use Rattle.qs_check.specs.Cells.{variables_among}
 use Rattle.qs_check.proofs.Written.{variables_among-append}
-
-pub not_both : {b : Bool} → b ≡ true → b ≡ false → ⊥
-not_both t f = absurd cc
 
 pub is_member : (v : Var) (vs : List Var) → is_among v vs ≡ true → v ∈ vs
 is_member v [] e = absurd cc
@@ -35,11 +33,7 @@ member_is v (w ∷ vs) (inr i) = tested (same_var w v) (member_is v vs i)
     tested false e = e
 
 pub not_member : (v : Var) (vs : List Var) → (v ∈ vs → ⊥) → is_among v vs ≡ false
-not_member v vs n = tested (is_among v vs) refl
-  where
-    tested : (b : Bool) → is_among v vs ≡ b → b ≡ false
-    tested true e = absurd (n (is_member v vs e))
-    tested false e = refl
+not_member v vs n = false_from_ne_true (is_among v vs) (λ e. n (is_member v vs e))
 
 -- the variables that a cell adds
 pub only_variable : (cell : Head) (v w : Var) → cell ≡ head.Var v → w ∈ head_variables cell → w ≡ v
@@ -53,12 +47,7 @@ module _ (cells : List Head) (i : ℕ) (x : Head) (l : i < length cells) (is : x
 
   pub each_more : (bound : List Var) → ((v : Var) → v ∈ variables_among (take i cells) → v ∈ bound) → ((v : Var) → v ∈ head_variables x → v ∈ bound)
       → (v : Var) → v ∈ variables_among (take (i + 1) cells) → v ∈ bound
-  each_more bound before here v m = ⊎_elim (before v) (here v) (from_both (variables_among (take i cells)) (head_variables x) (subst (λ vs. v ∈ vs) among-more m))
-    where
-      from_both : (a b : List Var) → v ∈ (a ++ b) → (v ∈ a) ⊎ (v ∈ b)
-      from_both [] b m = inr m
-      from_both (w ∷ a) b (inl e) = inl (inl e)
-      from_both (w ∷ a) b (inr m) = ⊎_elim (λ j. inl (inr j)) inr (from_both a b m)
+  each_more bound before here v m = ⊎_elim (before v) (here v) (from_append (variables_among (take i cells)) (head_variables x) v (subst (λ vs. v ∈ vs) among-more m))
 
   -- a cell that adds no new variable
   pub firsts_same : ((v : Var) → v ∈ head_variables x → v ∈ firsts (variables_among (take i cells))) → firsts (variables_among (take (i + 1) cells)) ≡ firsts (variables_among (take i cells))
@@ -76,9 +65,6 @@ module _ (cells : List Head) (i : ℕ) (x : Head) (l : i < length cells) (is : x
       let seen = firsts (variables_among (take i cells)) in
       ap firsts among-more ∙ ap (λ h. firsts (variables_among (take i cells) ++ head_variables h)) e
       ∙ firsts-last (variables_among (take i cells)) v ∙ ap (λ b. if b then seen else seen ++ v ∷ []) (not_member v seen new)
-
-pub at_place : {X : Type 0} (xs : List X) (n : ℕ) (x : X) → n < length xs → x ≡ get_or xs n x → slice_get xs n ≡ Some x
-at_place xs n x h e = slice_get-get_or xs n x h ∙ ap (λ y. Some y) (sym e)
 
 -- more variables have no fewer first occurrences
 pub firsts-grow : (vs ws : List Var) → length (firsts vs) ≤ length (firsts (vs ++ ws))

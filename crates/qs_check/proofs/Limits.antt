@@ -2,7 +2,7 @@
 use Rattle.std.proofs.Common.{◌≡◌, ℕ, ◌+◌, ◌<◌, ◌≤◌, inl, ⊎_elim, List, [], ◌∷◌, ◌++◌, length, take, drop, Option, Some, None, slice_get, refl, sym, ◌∙◌, ap, subst, arith, length-append}
 use Rattle.std.specs.Prelude.{MatchOption}
 use Rattle.std.proofs.lemmas.Bool.{cases_order}
-use Rattle.std.proofs.lemmas.List.{take-take, take_all}
+use Rattle.std.proofs.lemmas.List.{take-take, take_all, take-append-drop}
 use Rattle.std.proofs.lemmas.Option.{slice_get_within, get_or_from_slice_get}
 use Rattle.qs_tree.specs.Lists.{◌∈◌}
 use Rattle.qs_tree.proofs.Members.{in_append_left, in_append_right, from_append}
@@ -19,7 +19,6 @@ use Rattle.qs_check.specs.Causes.{Has17th, Has33rd, HasUnbound, IsFirstCause, le
 use Rattle.qs_pattern.proofs.VariableLemmas.{from_firsts}
 use Rattle.qs_check.proofs.Written.{length-rule, variables-rule, variables_among-append}
 use Rattle.qs_check.proofs.Among.{among-more, firsts_new, firsts-grow}
-use Rattle.qs_check.proofs.Sides.{take_then_drop}
 
 pub some_case : {X : Type 0} (o : Option X) (P : Type 0) (Q : X → Type 0) (x : X) → o ≡ Some x → MatchOption o P Q → Q x
 some_case o P Q x e m = subst (λ o. MatchOption o P Q) e m
@@ -97,7 +96,7 @@ module _ (cs : List Head) where
   -- what is in front of a place is in front of each later one
   later : (m n : ℕ) → m ≤ n → variables_among (take n cs) ≡ variables_among (take m cs) ++ variables_among (drop m (take n cs))
   later m n h =
-      ap variables_among (sym (take_then_drop m (take n cs))) ∙ variables_among-append (take m (take n cs)) (drop m (take n cs))
+      ap variables_among (sym (take-append-drop m (take n cs))) ∙ variables_among-append (take m (take n cs)) (drop m (take n cs))
       ∙ ap (λ us. variables_among us ++ variables_among (drop m (take n cs))) (take-take m n cs h)
 
   -- a variable that stands in front of a place is among those in front of it

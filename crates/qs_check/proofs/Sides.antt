@@ -1,18 +1,14 @@
 -- The first patterns of a side, and those behind them.
 use Rattle.std.proofs.Common.{◌≡◌, ℕ, ◌<◌, List, [], ◌∷◌, ◌++◌, length, take, drop, refl, sym, ◌∙◌, ap, arith}
 use Rattle.std.proofs.lemmas.Grind.{common_steps}
+use Rattle.std.proofs.lemmas.List.{take-append-drop}
 use Rattle.qs_pattern.specs.declared.pattern.Pattern.{Pattern, Node', Tree, Forest}
-use Rattle.qs_pattern.specs.Patterns.{node_first, tree_var_first, forest_var_first, row_patterns, patterns, count}
+use Rattle.qs_pattern.specs.Patterns.{node_first, tree_var_first, forest_var_first, row_patterns, patterns}
+use Rattle.qs_pattern.proofs.PatternLemmas.{count-patterns}
 use Rattle.qs_check.specs.Cells.{written}
 use Rattle.qs_ruletext.specs.Reading.{joined}
 use Rattle.qs_check.specs.Causes.{Has17th}
 use Rattle.qs_check.proofs.Written.{length-written}
-
-pub count-patterns : (ps : List Pattern) → count (patterns ps) ≡ length ps
-count-patterns [] = refl
-count-patterns (Node' h shape kids ∷ ps) = omega (arith, count-patterns ps)
-count-patterns (Tree v ∷ ps) = omega (arith, count-patterns ps)
-count-patterns (Forest v ∷ ps) = omega (arith, count-patterns ps)
 
 patterns-append : (ps qs : List Pattern) → patterns (ps ++ qs) ≡ joined (patterns ps) (patterns qs)
 patterns-append [] qs = refl
@@ -20,14 +16,11 @@ patterns-append (Node' h shape kids ∷ ps) qs = ap (λ us. node_first h (row_pa
 patterns-append (Tree v ∷ ps) qs = ap (λ us. tree_var_first v us) (patterns-append ps qs)
 patterns-append (Forest v ∷ ps) qs = ap (λ us. forest_var_first v us) (patterns-append ps qs)
 
-pub take_then_drop : {X : Type 0} (n : ℕ) (xs : List X) → take n xs ++ drop n xs ≡ xs
-take_then_drop n xs = grind (arith, common_steps)
-
 pub has_17th : (side : List Pattern) (n : ℕ) → 16 < length side → n ≡ length (written (patterns (take 16 side))) → Has17th (patterns side) n
 has_17th side n long e = record {
   front = patterns (take 16 side);
   behind = patterns (drop 16 side);
-  are = ap patterns (sym (take_then_drop 16 side)) ∙ patterns-append (take 16 side) (drop 16 side);
+  are = ap patterns (sym (take-append-drop 16 side)) ∙ patterns-append (take 16 side) (drop 16 side);
   sixteen = count-patterns (take 16 side) ∙ grind (arith, common_steps);
   more = let some : 0 < length (drop 16 side) = grind (arith, common_steps) in omega (arith, count-patterns (drop 16 side), some);
   cells_before = e ∙ length-written (patterns (take 16 side));

@@ -12,7 +12,8 @@ use Rattle.qs_pattern.specs.declared.pattern.Head.{Head}
 use Rattle.qs_pattern.specs.declared.pattern.Head.TheVariants as head
 use Rattle.qs_pattern.specs.Letters.{is_variable_letter}
 use Rattle.qs_pattern.specs.Patterns.{Patterns, no_pattern, node_first, tree_var_first, forest_var_first, count, cells, AreInClass, IsHeadInClass, NoForestAtTop}
-use Rattle.qs_pattern.specs.Conditions.{Condition, Conditions, no_condition, condition_first, condition_cells, IsConditionInClass, EachListOfAll, HasEnoughMembers, HaveEnoughMembers}
+use Rattle.qs_pattern.specs.Conditions.{Condition, Conditions, no_condition, condition_first, condition_cells, IsConditionInClass, HasEnoughMembers, HaveEnoughMembers}
+use Rattle.qs_pattern.specs.working.Conditions.{EachListOfAll}
 use Rattle.qs_pattern.specs.Rules.{UnmarkedRule, rule_cells, cells_if_given, IsInClassIfGiven, HasEnoughMembersIfGiven}
 use Rattle.qs_ruletext.specs.WrittenRules.{WrittenRule}
 use Rattle.qs_ruletext.specs.Reading.{IsVariableOf, IsHeadOf, joined, ReadsTree, reads_node, reads_tree_variable, ReadsSubtrees, no_parentheses, nothing_inside, list_inside, ReadsList, reads_list, ReadsMoreItems, no_more_items, one_more_item, ReadsItem, reads_tree, reads_forest_variable, ReadsMoreTrees, no_more_trees, one_more_tree, ReadsSide, reads_side, any_of, all_of, ReadsCond, reads_cond, ReadsMoreConjs, no_more_conjs, one_more_conj, ReadsConj, reads_conj, ReadsMoreNegs, no_more_negs, one_more_neg, ReadsNeg, not_negated, reads_negated, ReadsPrim, reads_group, reads_compared}

@@ -6,8 +6,10 @@ use Rattle.qs_pattern.specs.declared.variable.Var.{Var}
 use Rattle.qs_pattern.specs.declared.pattern.Head.{Head}
 use Rattle.qs_pattern.specs.declared.pattern.Pattern.{Pattern, Node, Node', Tree, Forest}
 use Rattle.qs_pattern.specs.declared.condition.Cond.{Cond, All, Any}
-use Rattle.qs_pattern.specs.Patterns.{Patterns, no_pattern, node_first, tree_var_first, forest_var_first, pattern_before, patterns, one_pattern, cells, head_variables, variables_in}
-use Rattle.qs_pattern.specs.Conditions.{Condition, Conditions, compared, negated, combined, no_condition, condition_first, condition_of, conditions, over_all_lists, condition_cells, condition_variables}
+use Rattle.qs_pattern.specs.Patterns.{Patterns, no_pattern, node_first, tree_var_first, forest_var_first, pattern_before, patterns, cells, head_variables, variables_in}
+use Rattle.qs_pattern.specs.working.Patterns.{one_pattern}
+use Rattle.qs_pattern.specs.Conditions.{Condition, Conditions, compared, negated, combined, no_condition, condition_first, condition_of, over_all_lists, condition_cells, condition_variables}
+use Rattle.qs_pattern.specs.working.Conditions.{conditions}
 use Rattle.qs_pattern.specs.Rules.{UnmarkedRule, rule_cells, rule_variables, cells_if_given, variables_if_given}
 use Rattle.qs_pattern.proofs.PatternLemmas.{pattern-Node}
 use Rattle.qs_pattern.proofs.ConditionLemmas.{condition-All, condition-Any}

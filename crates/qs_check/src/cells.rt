@@ -1,7 +1,8 @@
 //! The cells of patterns, conditions and rules, in the order of the text.
 
 ghost use Rattle.std.specs.Prelude.{◌≡◌, ◌++◌, option_map, IfOk, OnOk};
-ghost use Rattle.qs_pattern.specs.Patterns.{one_pattern, patterns};
+ghost use Rattle.qs_pattern.specs.Patterns.{patterns};
+ghost use Rattle.qs_pattern.specs.working.Patterns.{one_pattern};
 ghost use Rattle.qs_pattern.specs.Conditions.{condition_of};
 ghost use Rattle.qs_check.specs.Cells.{written, written_condition, written_if_given, written_rule};
 

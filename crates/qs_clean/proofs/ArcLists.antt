@@ -5,29 +5,13 @@ use Rattle.std.specs.List.{cons_option}
 use Rattle.std.proofs.lemmas.List.{length_push}
 use Rattle.std.proofs.lemmas.Option.{same_Some}
 use Rattle.qs_tree.specs.Lists.{◌∈◌}
+use Rattle.qs_tree.proofs.Members.{mapped, in_map}
 use Rattle.qs_graph.specs.Graphs.{Arc, arcs_at}
 use Rattle.qs_clean.specs.declared.links.Link.{Link}
-use Rattle.qs_clean.specs.Links.{IsMarked, Reaches, here, onward, turned}
-use Rattle.qs_clean.specs.Steps.{each_pair, free_link, keeps_mark, marked, numbered_arc, if_kept}
+use Rattle.qs_clean.specs.working.Links.{IsMarked, Reaches, here, onward, turned}
+use Rattle.qs_clean.specs.working.Steps.{each_pair, free_link, keeps_mark, marked, numbered_arc, if_kept}
 use Rattle.qs_clean.proofs.Exploring.{reaches_more}
 use Rattle.qs_clean.proofs.Places.{places}
-
-pub in_map : {X Y : Type 0} (f : X → Y) (xs : List X) (y : Y) → y ∈ map f xs → (x : X) × (x ∈ xs) × (y ≡ f x)
-in_map f [] y i = absurd i
-in_map f (x ∷ xs) y (inl e) = (x, inl refl, e)
-in_map f (x ∷ xs) y (inr i) = let (z, j, e) = in_map f xs y i in (z, inr j, e)
-
-pub to_map : {X Y : Type 0} (f : X → Y) (xs : List X) (x : X) → x ∈ xs → f x ∈ map f xs
-to_map f [] x i = absurd i
-to_map f (y ∷ xs) x (inl e) = inl (ap f e)
-to_map f (y ∷ xs) x (inr i) = inr (to_map f xs x i)
-
-pub map_same : {X Y : Type 0} (f g : X → Y) (xs : List X) → ((x : X) → x ∈ xs → f x ≡ g x) → map f xs ≡ map g xs
-map_same f g [] same = refl
-map_same f g (x ∷ xs) same =
-    let e : f x ≡ g x = same x (inl refl) in
-    let d : map f xs ≡ map g xs = map_same f g xs (λ y i. same y (inr i)) in
-    cc
 
 pub some_within : {X : Type 0} (xs : List X) (k : ℕ) → k < length xs → (x : X) × (slice_get xs k ≡ Some x)
 some_within [] k l = absurd (omega arith)
@@ -181,14 +165,14 @@ module _ (from_entry to_exit : List Bool) where
 pub turned_back : {links : List Link} {a b : ℕ} → Reaches (map turned links) a b → Reaches links b a
 turned_back here = here
 turned_back {links} (onward link i e r) =
-    let (first, j, is) = in_map turned links link i in
+    let (first, j, is) = mapped turned links link i in
     let rest : Reaches links _ first.from = subst (Reaches links _) (ap (λ (l : Link). l.to) is) (turned_back r) in
     subst (Reaches links _) (ap (λ (l : Link). l.from) (sym is) ∙ e) (reaches_more rest first j refl)
 
 pub turned_there : {links : List Link} {a b : ℕ} → Reaches links a b → Reaches (map turned links) b a
 turned_there here = here
 turned_there {links} (onward link i e r) =
-    subst (Reaches (map turned links) _) e (reaches_more (turned_there r) (turned link) (to_map turned links link i) refl)
+    subst (Reaches (map turned links) _) e (reaches_more (turned_there r) (turned link) (in_map turned links link i) refl)
 
 pub reaches_on : {links : List Link} {a b c : ℕ} → Reaches links a b → Reaches links b c → Reaches links a c
 reaches_on here s = s

@@ -2,10 +2,10 @@
 use Rattle.std.proofs.Common.{◌≡◌, ◌⊎◌, ◌↔◌, ℕ, ◌+◌, ◌<◌, ◌≤◌, Bool, false, true, List, [], ◌∷◌, ◌++◌, length, take, drop, get_or, set, replicate, refl, sym, ◌∙◌, ap, subst, inl, inr, ⊎_elim, arith, append_assoc}
 use Rattle.std.proofs.lemmas.List.{take_more, take_all, drop_more, drop_all, append-nil}
 use Rattle.qs_tree.specs.Lists.{◌∈◌}
-use Rattle.qs_graph.proofs.Paths.{append_cases, append_left, append_right}
+use Rattle.qs_tree.proofs.Members.{from_append, in_append_left, in_append_right}
 use Rattle.qs_canon.specs.Rounds.{Done}
-use Rattle.qs_clean.specs.Links.{IsMarked}
-use Rattle.qs_clean.specs.Steps.{IsUsed, each_pair, marked, numbering}
+use Rattle.qs_clean.specs.working.Links.{IsMarked}
+use Rattle.qs_clean.specs.working.Steps.{IsUsed, each_pair, marked, numbering}
 use Rattle.qs_clean.proofs.Exploring.{set_still, set_marked, set_only, none_of-replicate}
 
 -- what is made of one more pair
@@ -55,8 +55,8 @@ path_more path i t marks now after l e within new h k = subst (λ ms. IsMarked m
 
     there : IsMarked (set now t true) k → IsMarked marks k ⊎ (k ∈ take (i + 1) path)
     there m = ⊎_elim
-        (λ n. ⊎_elim inl (λ j. inr (subst (λ ns. k ∈ ns) (sym all) (append_left (take i path) (t ∷ []) k j))) ((h k).0 n))
-        (λ s. inr (subst (λ ns. k ∈ ns) (sym all) (append_right (take i path) (t ∷ []) k (inl s))))
+        (λ n. ⊎_elim inl (λ j. inr (subst (λ ns. k ∈ ns) (sym all) (in_append_left (take i path) (t ∷ []) k j))) ((h k).0 n))
+        (λ s. inr (subst (λ ns. k ∈ ns) (sym all) (in_append_right (take i path) (t ∷ []) k (inl s))))
         (set_only now t k m)
 
     back : IsMarked marks k ⊎ (k ∈ take (i + 1) path) → IsMarked (set now t true) k
@@ -65,12 +65,12 @@ path_more path i t marks now after l e within new h k = subst (λ ms. IsMarked m
         (λ j. ⊎_elim
         (λ i. set_still now t k ((h k).1 (inr i)))
         (λ i. ⊎_elim (λ s. subst (λ n. IsMarked (set now t true) n) (sym s) (set_marked now t within)) (λ none. absurd none) i)
-        (append_cases (take i path) (t ∷ []) k (subst (λ ns. k ∈ ns) all j)))
+        (from_append (take i path) (t ∷ []) k (subst (λ ns. k ∈ ns) all j)))
         c
 
 -- one more firing
 used_more : (done more : List Done) (k : ℕ) → IsUsed done k → IsUsed (done ++ more) k
-used_more done more k u = record { by = u.by; is_done = append_left done more u.by u.is_done; used = u.used }
+used_more done more k u = record { by = u.by; is_done = in_append_left done more u.by u.is_done; used = u.used }
 
 pub firing_more : (done : List Done) (i : ℕ) (d : Done) (path : List ℕ) (now after : List Bool) → i < length done → d ≡ get_or done i d → path ≡ d.firing.path
     → ((k : ℕ) → IsMarked now k ↔ IsUsed (take i done) k) → ((k : ℕ) → IsMarked after k ↔ (IsMarked now k ⊎ (k ∈ path))) → (k : ℕ) → IsMarked after k ↔ IsUsed (take (i + 1) done) k
@@ -82,7 +82,7 @@ firing_more done i d path now after l e p h g k = subst (λ ds. IsMarked after k
     there : IsMarked after k → IsUsed (take i done ++ d ∷ []) k
     there m = ⊎_elim
         (λ n. used_more (take i done) (d ∷ []) k ((h k).0 n))
-        (λ j. record { by = d; is_done = append_right (take i done) (d ∷ []) d (inl refl); used = subst (λ ns. k ∈ ns) p j })
+        (λ j. record { by = d; is_done = in_append_right (take i done) (d ∷ []) d (inl refl); used = subst (λ ns. k ∈ ns) p j })
         ((g k).0 m)
 
     back : IsUsed (take i done ++ d ∷ []) k → IsMarked after k
@@ -92,7 +92,7 @@ firing_more done i d path now after l e p h g k = subst (λ ds. IsMarked after k
         (λ s. (g k).1 (inr (subst (λ ns. k ∈ ns) (sym p) (subst (λ (x : Done). k ∈ x.firing.path) s u.used))))
         (λ none. absurd none)
         j)
-        (append_cases (take i done) (d ∷ []) u.by u.is_done)
+        (from_append (take i done) (d ∷ []) u.by u.is_done)
 
 -- the whole path is marked
 pub path_all : (path : List ℕ) (i : ℕ) (marks now : List Bool) → length path ≤ i → ((k : ℕ) → IsMarked now k ↔ (IsMarked marks k ⊎ (k ∈ take i path))) → (k : ℕ) → IsMarked now k ↔ (IsMarked marks k ⊎ (k ∈ path))

@@ -4,17 +4,17 @@ use Rattle.std.proofs.lemmas.Bool.{cases_lt}
 use Rattle.std.proofs.lemmas.Option.{slice_get_within}
 use Rattle.qs_tree.specs.Lists.{◌∈◌}
 use Rattle.qs_graph.specs.Graphs.{Arc, QGraph, Leads, IsNode, IsEntry, IsExit, IsValid}
-use Rattle.qs_graph.proofs.Lines.{member-slice_get}
+use Rattle.qs_tree.proofs.Members.{in_at, mapped, in_map}
 use Rattle.qs_firing.specs.Firings.{Firing}
 use Rattle.qs_canon.specs.Rounds.{Stage, Done, firings}
 use Rattle.qs_canon.specs.Closures.{ClosureOf}
 use Rattle.qs_canon.proofs.Keeping.{Keeps, keeps_rounds, nothing_done}
 use Rattle.qs_clean.specs.declared.links.Link.{Link}
-use Rattle.qs_clean.specs.Links.{Reaches, turned}
-use Rattle.qs_clean.specs.Steps.{IsUsed, each_pair, free_link, keeps_mark, both, marked, AreMarks}
+use Rattle.qs_clean.specs.working.Links.{Reaches, turned}
+use Rattle.qs_clean.specs.working.Steps.{IsUsed, each_pair, free_link, keeps_mark, both, marked, AreMarks}
 use Rattle.qs_clean.specs.Cleaning.{IsClosureOfValid, IsDenoted}
 use Rattle.qs_clean.proofs.Places.{marked_le, marked_lt, in_both_from, length-both}
-use Rattle.qs_clean.proofs.ArcLists.{in_map, to_map, FreeArc, free_from_link, length-keeps, not_kept, reaches_last}
+use Rattle.qs_clean.proofs.ArcLists.{FreeArc, free_from_link, length-keeps, not_kept, reaches_last}
 
 pub leads_within : (arcs : List Arc) (a : ℕ) (path : List ℕ) (b : ℕ) → Leads arcs a path b → (k : ℕ) → k ∈ path → k < length arcs
 leads_within arcs a [] b l k i = absurd i
@@ -46,7 +46,7 @@ module _ (c : ClosureOf) (is : IsClosureOfValid c) where
   exit_is = (keeps.exit c.exit).0 is.closure.exit
 
   done_firing : (d : Done) → d ∈ S.done → d.firing ∈ firings S
-  done_firing d i = to_map (λ (x : Done). x.firing) S.done d i
+  done_firing d i = in_map (λ (x : Done). x.firing) S.done d i
 
   -- what is denoted is what done firings use
   pub denoted_used : (k : ℕ) → IsUsed S.done k ↔ IsDenoted S k
@@ -57,7 +57,7 @@ module _ (c : ClosureOf) (is : IsClosureOfValid c) where
 
       back : IsDenoted S k → IsUsed S.done k
       back d =
-          let (done, i, e) = in_map (λ (x : Done). x.firing) S.done d.by d.done in
+          let (done, i, e) = mapped (λ (x : Done). x.firing) S.done d.by d.done in
           record { by = done; is_done = i; used = subst (λ (f : Firing). k ∈ f.path) e d.used }
 
   pub path_within : (d : Done) → d ∈ S.done → (k : ℕ) → k ∈ d.firing.path → k < length S.graph.arcs
@@ -72,12 +72,12 @@ module _ (c : ClosureOf) (is : IsClosureOfValid c) where
     pub links_in : (link : Link) → link ∈ links → IsNode S.graph link.from × IsNode S.graph link.to
     links_in link i =
         let f = link_arc link i in
-        let h = stage_valid.in_range f.arc (member-slice_get S.graph.arcs f.number f.arc f.is) in
+        let h = stage_valid.in_range f.arc (in_at S.graph.arcs f.number f.arc f.is) in
         (subst (IsNode S.graph) f.from h.0, subst (IsNode S.graph) f.to h.1)
 
     pub turned_in : (back : List Link) → back ≡ map turned links → (link : Link) → link ∈ back → IsNode S.graph link.from × IsNode S.graph link.to
     turned_in back e link i =
-        let (first, j, same) = in_map turned links link (subst (λ (ls : List Link). link ∈ ls) e i) in
+        let (first, j, same) = mapped turned links link (subst (λ (ls : List Link). link ∈ ls) e i) in
         let h = links_in first j in
         (subst (IsNode S.graph) (ap (λ (l : Link). l.from) (sym same)) h.1, subst (IsNode S.graph) (ap (λ (l : Link). l.to) (sym same)) h.0)
 

@@ -2,9 +2,9 @@
 use Rattle.std.proofs.Common.{◌≡◌, ◌⊎◌, ◌↔◌, ℕ, zero, suc, ◌+◌, ◌<◌, Bool, true, false, List, [], ◌∷◌, ◌++◌, length, get_or, set, replicate, refl, sym, ap, subst, inl, inr, ⊎_elim, arith, length-append}
 use Rattle.std.proofs.lemmas.List.{length-replicate}
 use Rattle.qs_tree.specs.Lists.{◌∈◌}
-use Rattle.qs_graph.proofs.Paths.{append_cases, append_left, append_right}
+use Rattle.qs_tree.proofs.Members.{from_append, in_append_left, in_append_right}
 use Rattle.qs_clean.specs.declared.links.Link.{Link}
-use Rattle.qs_clean.specs.Links.{IsMarked, Reaches, here, onward, AreGroups, unmarked, AreMarked}
+use Rattle.qs_clean.specs.working.Links.{IsMarked, Reaches, here, onward, AreGroups, unmarked, AreMarked}
 
 -- what is marked is within the list
 pub marked_within : (marks : List Bool) (n : ℕ) → IsMarked marks n → n < length marks
@@ -41,7 +41,7 @@ unmarked-set (false ∷ marks) (suc k) l e = omega (arith, unmarked-set marks k 
 
 -- one more target
 in_push : (xs : List ℕ) (y n : ℕ) → n ∈ (xs ++ y ∷ []) → (n ∈ xs) ⊎ (n ≡ y)
-in_push xs y n i = ⊎_elim inl (λ j. ⊎_elim inr (λ none. absurd none) j) (append_cases xs (y ∷ []) n i)
+in_push xs y n i = ⊎_elim inl (λ j. ⊎_elim inr (λ none. absurd none) j) (from_append xs (y ∷ []) n i)
 
 pub none_marked : (marks : List Bool) (waiting : List ℕ) → AreMarked [] marks marks waiting waiting
 none_marked marks waiting = record {
@@ -57,25 +57,25 @@ none_marked marks waiting = record {
 module _ (targets : List ℕ) (marks new_marks : List Bool) (waiting new_waiting : List ℕ) (a : AreMarked targets marks new_marks waiting new_waiting) (t : ℕ) where
   pub marked_before : IsMarked new_marks t → AreMarked (targets ++ t ∷ []) marks new_marks waiting new_waiting
   marked_before m = record {
-    marked = λ n h. ⊎_elim inl (λ i. inr (append_left targets (t ∷ []) n i)) (a.marked n h);
+    marked = λ n h. ⊎_elim inl (λ i. inr (in_append_left targets (t ∷ []) n i)) (a.marked n h);
     still = a.still;
     all = λ n i. ⊎_elim (a.all n) (λ e. subst (IsMarked new_marks) (sym e) m) (in_push targets t n i);
-    waits = λ n i. ⊎_elim inl (λ j. inr (append_left targets (t ∷ []) n j)) (a.waits n i);
+    waits = λ n i. ⊎_elim inl (λ j. inr (in_append_left targets (t ∷ []) n j)) (a.waits n i);
     still_waits = a.still_waits;
     new_waits = a.new_waits;
     work = a.work;
   }
 
   last_target : (n : ℕ) → n ≡ t → n ∈ (targets ++ t ∷ [])
-  last_target n e = append_right targets (t ∷ []) n (inl e)
+  last_target n e = in_append_right targets (t ∷ []) n (inl e)
 
   last_waits : (n : ℕ) → n ≡ t → n ∈ (new_waiting ++ t ∷ [])
-  last_waits n e = append_right new_waiting (t ∷ []) n (inl e)
+  last_waits n e = in_append_right new_waiting (t ∷ []) n (inl e)
 
   pub marked_now : t < length new_marks → get_or new_marks t false ≡ false → AreMarked (targets ++ t ∷ []) marks (set new_marks t true) waiting (new_waiting ++ t ∷ [])
   marked_now l e = record {
     marked = λ n h. ⊎_elim
-        (λ m. ⊎_elim inl (λ i. inr (append_left targets (t ∷ []) n i)) (a.marked n m))
+        (λ m. ⊎_elim inl (λ i. inr (in_append_left targets (t ∷ []) n i)) (a.marked n m))
         (λ s. inr (last_target n s))
         (set_only new_marks t n h);
     still = λ n m. set_still new_marks t n (a.still n m);
@@ -84,12 +84,12 @@ module _ (targets : List ℕ) (marks new_marks : List Bool) (waiting new_waiting
         (λ s. subst (IsMarked (set new_marks t true)) (sym s) (set_marked new_marks t l))
         (in_push targets t n i);
     waits = λ n i. ⊎_elim
-        (λ j. ⊎_elim inl (λ k. inr (append_left targets (t ∷ []) n k)) (a.waits n j))
+        (λ j. ⊎_elim inl (λ k. inr (in_append_left targets (t ∷ []) n k)) (a.waits n j))
         (λ s. inr (last_target n s))
         (in_push new_waiting t n i);
-    still_waits = λ n i. append_left new_waiting (t ∷ []) n (a.still_waits n i);
+    still_waits = λ n i. in_append_left new_waiting (t ∷ []) n (a.still_waits n i);
     new_waits = λ n h. ⊎_elim
-        (λ m. ⊎_elim inl (λ i. inr (append_left new_waiting (t ∷ []) n i)) (a.new_waits n m))
+        (λ m. ⊎_elim inl (λ i. inr (in_append_left new_waiting (t ∷ []) n i)) (a.new_waits n m))
         (λ s. inr (last_waits n s))
         (set_only new_marks t n h);
     work = omega (arith, unmarked-set new_marks t l e, length-append new_waiting (t ∷ []), a.work);
@@ -129,7 +129,7 @@ exploring_start links start nodes l = record {
 module _ (links : List Link) (start : ℕ) (groups : List (List ℕ)) (g : AreGroups links groups) (marks new_marks : List Bool) (rest new_waiting : List ℕ) (node : ℕ)
     (x : IsExploring links start marks (rest ++ node ∷ [])) where
   node_marked : IsMarked marks node
-  node_marked = x.waits node (append_right rest (node ∷ []) node (inl refl))
+  node_marked = x.waits node (in_append_right rest (node ∷ []) node (inl refl))
 
   target_reached : (n : ℕ) → n ∈ get_or groups node [] → Reaches links start n
   target_reached n i =
@@ -141,7 +141,7 @@ module _ (links : List Link) (start : ℕ) (groups : List (List ℕ)) (g : AreGr
     sound = λ n m. ⊎_elim (x.sound n) (target_reached n) (a.marked n m);
     begun = a.still start x.begun;
     waits = λ n i. ⊎_elim
-        (λ j. a.still n (x.waits n (append_left rest (node ∷ []) n j)))
+        (λ j. a.still n (x.waits n (in_append_left rest (node ∷ []) n j)))
         (a.all n)
         (a.waits n i);
     closed = λ link i m. ⊎_elim (old link i) inr (a.new_waits link.from m);

@@ -4,10 +4,10 @@ use Rattle.std.specs.List.{cons_option}
 use Rattle.std.proofs.lemmas.List.{length-map}
 use Rattle.qs_tree.specs.Lists.{◌∈◌, Ascends}
 use Rattle.qs_graph.specs.Graphs.{Arc, QGraph, IsNode, IsValid, arcs_at}
-use Rattle.qs_graph.proofs.Lines.{member-slice_get}
+use Rattle.qs_tree.proofs.Members.{in_at, mapped}
 use Rattle.qs_canon.specs.Rounds.{Stage}
 use Rattle.qs_clean.specs.Cleaning.{Cleans, renumbered}
-use Rattle.qs_clean.proofs.ArcLists.{in_map, in_arcs_at}
+use Rattle.qs_clean.proofs.ArcLists.{in_arcs_at}
 use Rattle.qs_clean.proofs.Closures.{leads_within}
 
 -- so many numbers fit between two
@@ -43,16 +43,16 @@ module _ (S : Stage) (H : QGraph) (cleans : Cleans S H) where
   -- what stands on an arc that is left stood on one before
   pub old_tree : (arc : Arc) → arc ∈ H.arcs → (was : Arc) × (was ∈ S.graph.arcs) × (arc.tree ≡ was.tree)
   old_tree arc i =
-      let (was, j, e) = in_map (renumbered cleans.left) (arcs_at S.graph.arcs cleans.kept) arc (subst (λ (arcs : List Arc). arc ∈ arcs) cleans.arcs i) in
+      let (was, j, e) = mapped (renumbered cleans.left) (arcs_at S.graph.arcs cleans.kept) arc (subst (λ (arcs : List Arc). arc ∈ arcs) cleans.arcs i) in
       let (k, m, is) = in_arcs_at S.graph.arcs cleans.kept was j in
-      (was, member-slice_get S.graph.arcs k was is, ap (λ (x : Arc). x.tree) e)
+      (was, in_at S.graph.arcs k was is, ap (λ (x : Arc). x.tree) e)
 
   module _ (valid : IsValid S.graph) where
     left_within : (n : ℕ) → n ∈ cleans.left → (1 ≤ n) × (n < S.graph.nodes + 1)
     left_within n i =
         let (arc, j, c) = (cleans.left_are n).0 i in
         let (k, m, is) = in_arcs_at S.graph.arcs cleans.kept arc j in
-        let ends = valid.in_range arc (member-slice_get S.graph.arcs k arc is) in
+        let ends = valid.in_range arc (in_at S.graph.arcs k arc is) in
         let node : IsNode S.graph n = ⊎_elim (λ e. subst (IsNode S.graph) (sym e) ends.0) (λ e. subst (IsNode S.graph) (sym e) ends.1) c in
         (node.0, omega (arith, node.1))
 

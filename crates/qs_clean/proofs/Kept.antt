@@ -1,12 +1,14 @@
 -- What the marks keep is what cleaning keeps.
 use Rattle.std.proofs.Common.{◌≡◌, ◌⊎◌, ◌↔◌, ℕ, Bool, false, true, List, [], ◌∷◌, ◌++◌, get_or, slice_get, Some, refl, sym, ◌∙◌, ap, subst, inl, inr, ⊎_elim, arith, length-append}
+use Rattle.std.proofs.lemmas.Bool.{false_from_ne_true}
 use Rattle.qs_tree.specs.Lists.{◌∈◌}
 use Rattle.qs_graph.specs.Graphs.{Arc, Leads, IsEntry, IsExit, IsValid, arcs_at}
-use Rattle.qs_graph.proofs.Paths.{append_cases, append_right, leads-append}
+use Rattle.qs_tree.proofs.Members.{from_append, in_append_right}
+use Rattle.qs_graph.proofs.Paths.{leads-append}
 use Rattle.qs_canon.specs.Rounds.{Stage}
 use Rattle.qs_clean.specs.declared.links.Link.{Link}
-use Rattle.qs_clean.specs.Links.{IsMarked, Reaches, here, onward}
-use Rattle.qs_clean.specs.Steps.{each_pair, free_link, keeps_mark, both, AreMarks}
+use Rattle.qs_clean.specs.working.Links.{IsMarked, Reaches, here, onward}
+use Rattle.qs_clean.specs.working.Steps.{each_pair, free_link, keeps_mark, both, AreMarks}
 use Rattle.qs_clean.specs.Cleaning.{IsDenoted, Stays, IsEndOf}
 use Rattle.qs_clean.proofs.Exploring.{reaches_more}
 use Rattle.qs_clean.proofs.Places.{places, in_places, in_both_from, in_both_to}
@@ -17,10 +19,6 @@ pub record FreePath (S : Stage) (a b : ℕ) : Type 0 where
   pub path : List ℕ
   pub leads : Leads S.graph.arcs a path b
   pub undenoted : (j : ℕ) → j ∈ path → IsDenoted S j → ⊥
-
-false_from : (b : Bool) → (b ≡ true → ⊥) → b ≡ false
-false_from true un = absurd (un refl)
-false_from false un = refl
 
 module _ (S : Stage) (entry exit : ℕ) (denoted from_entry to_exit : List Bool) (are : AreMarks S entry exit denoted from_entry to_exit) where
   abbrev arcs : List Arc
@@ -39,7 +37,7 @@ module _ (S : Stage) (entry exit : ℕ) (denoted from_entry to_exit : List Bool)
   not_denoted k free d = let m : get_or denoted k false ≡ true = (are.denoted_are k).1 d in let e : true ≡ false = sym m ∙ free in cc
 
   free_mark : (k : ℕ) → (IsDenoted S k → ⊥) → get_or denoted k false ≡ false
-  free_mark k un = false_from (get_or denoted k false) (λ m. un ((are.denoted_are k).0 m))
+  free_mark k un = false_from_ne_true (get_or denoted k false) (λ m. un ((are.denoted_are k).0 m))
 
   -- links are the arcs that are not denoted
   free_path : {a b : ℕ} → Reaches links a b → FreePath S a b
@@ -130,8 +128,8 @@ module _ (S : Stage) (entry exit : ℕ) (denoted from_entry to_exit : List Bool)
           undenoted = λ j i. ⊎_elim
               (p.undenoted j)
               (λ n. ⊎_elim (λ s. subst (λ u. IsDenoted S u → ⊥) (sym s) (not_denoted k r.free)) (q.undenoted j) n)
-              (append_cases p.path (k ∷ q.path) j i);
-          on = append_right p.path (k ∷ q.path) k (inl refl);
+              (from_append p.path (k ∷ q.path) j i);
+          on = in_append_right p.path (k ∷ q.path) k (inl refl);
         }
 
     stays_to : (k : ℕ) → Stays S k → IsMarked kept_marks k

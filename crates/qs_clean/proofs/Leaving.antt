@@ -3,15 +3,15 @@ use Rattle.std.proofs.Common.{◌⊎◌, ℕ, ◌+◌, ◌<◌, Bool, List, [], 
 use Rattle.std.proofs.lemmas.Bool.{cases_lt}
 use Rattle.qs_tree.specs.Lists.{◌∈◌}
 use Rattle.qs_graph.specs.Graphs.{Arc, QGraph, IsNode, IsValid}
-use Rattle.qs_graph.proofs.Lines.{member-slice_get}
+use Rattle.qs_tree.proofs.Members.{in_at, mapped}
 use Rattle.qs_firing.specs.Firings.{Firing}
 use Rattle.qs_canon.specs.Rounds.{Stage, firings}
 use Rattle.qs_canon.proofs.Keeping.{HasPath}
 use Rattle.qs_clean.specs.declared.links.Link.{Link}
-use Rattle.qs_clean.specs.Links.{Reaches, turned}
-use Rattle.qs_clean.specs.Steps.{each_pair, free_link, AreMarks}
+use Rattle.qs_clean.specs.working.Links.{Reaches, turned}
+use Rattle.qs_clean.specs.working.Steps.{each_pair, free_link, AreMarks}
 use Rattle.qs_clean.specs.Cleaning.{IsDenoted, Cleans, IsLeft}
-use Rattle.qs_clean.proofs.ArcLists.{in_map, free_from_link, reaches_last}
+use Rattle.qs_clean.proofs.ArcLists.{free_from_link, reaches_last}
 use Rattle.qs_clean.proofs.Closures.{leads_within}
 use Rattle.qs_clean.proofs.Renumbered.{new_arcs, new_graph, none_left, graph_left, graph_valid}
 use Rattle.qs_clean.proofs.MarkDecisions.{marks_from, length-marks, marks_are, decide_denoted, decide_reaches}
@@ -52,12 +52,12 @@ module _ (S : Stage) (valid : IsValid S.graph) (paths : (f : Firing) → f ∈ f
   link_nodes : (link : Link) → link ∈ links → IsNode S.graph link.from × IsNode S.graph link.to
   link_nodes link i =
       let f = free_from_link S.graph.arcs denoted link i in
-      let h = valid.in_range f.arc (member-slice_get S.graph.arcs f.number f.arc f.is) in
+      let h = valid.in_range f.arc (in_at S.graph.arcs f.number f.arc f.is) in
       (subst (IsNode S.graph) f.from h.0, subst (IsNode S.graph) f.to h.1)
 
   back_node : (link : Link) → link ∈ back → IsNode S.graph link.to
   back_node link i =
-      let (first, j, e) = in_map turned links link i in
+      let (first, j, e) = mapped turned links link i in
       subst (IsNode S.graph) (ap (λ (l : Link). l.to) (sym e)) (link_nodes first j).0
 
   marks : AreMarks S entry exit denoted from_entry to_exit

@@ -1,18 +1,13 @@
 -- The steps of the loops over links, over the lists that the program has.
-use Rattle.std.proofs.Common.{◌≡◌, ℕ, zero, suc, ◌+◌, ◌<◌, Bool, false, true, List, [], ◌∷◌, ◌++◌, length, map, take, drop, get_or, set, replicate, Global, refl, sym, ◌∙◌, ap, subst, inl, inr, arith, length-set}
+use Rattle.std.proofs.Common.{◌≡◌, ℕ, ◌+◌, ◌<◌, Bool, false, true, List, [], ◌∷◌, ◌++◌, length, map, take, drop, get_or, set, replicate, Global, refl, sym, ◌∙◌, ap, subst, inl, arith, length-set}
 use Rattle.std.proofs.lemmas.List.{take_more, take_at, map-set, get_or-map, length-map, length-replicate}
 use Rattle.std.specs.declared.vec.Vec.{Vec}
 use Rattle.qs_tree.specs.Lists.{◌∈◌}
-use Rattle.qs_graph.proofs.Paths.{append_right}
+use Rattle.qs_tree.proofs.Members.{in_append_right}
 use Rattle.qs_clean.specs.declared.links.Link.{Link}
-use Rattle.qs_clean.specs.Links.{AreGroups, AreMarked}
+use Rattle.qs_clean.specs.working.Links.{AreGroups, AreMarked}
 use Rattle.qs_clean.proofs.Exploring.{IsExploring, marked_before, marked_now, marked_within, exploring_start, exploring_on}
 use Rattle.qs_clean.proofs.Grouping.{group_link}
-
-pub member-get_or : {X : Type 0} (xs : List X) (i : ℕ) (d : X) → i < length xs → get_or xs i d ∈ xs
-member-get_or [] i d l = absurd (omega arith)
-member-get_or (x ∷ xs) zero d l = inl refl
-member-get_or (x ∷ xs) (suc i) d l = inr (member-get_or xs i d (omega arith))
 
 pub mark_new : (ts : List ℕ) (i t : ℕ) (marks new_marks after_marks : List Bool) (waiting new_waiting after_waiting : List ℕ) → i < length ts → t ≡ get_or ts i 0 → t < length new_marks
     → get_or new_marks t false ≡ false → after_marks ≡ set new_marks t true → after_waiting ≡ new_waiting ++ t ∷ [] → AreMarked (take i ts) marks new_marks waiting new_waiting
@@ -53,7 +48,7 @@ exploring_init links start n marks none waiting l m e w =
 -- a node that waits last is within the marks
 pub last_within : (links : List Link) (start : ℕ) (marks : List Bool) (waiting rest : List ℕ) (node : ℕ) → IsExploring links start marks waiting → waiting ≡ rest ++ node ∷ [] → node < length marks
 last_within links start marks waiting rest node x e =
-    marked_within marks node (x.waits node (subst (λ ns. node ∈ ns) (sym e) (append_right rest (node ∷ []) node (inl refl))))
+    marked_within marks node (x.waits node (subst (λ ns. node ∈ ns) (sym e) (in_append_right rest (node ∷ []) node (inl refl))))
 
 -- the marks that a call changed, whole
 pub written_back : (new old : List Bool) (n : ℕ) → length new ≡ n → take n (new ++ drop (length new) old) ≡ new
@@ -70,6 +65,3 @@ explore_step links start groups node at targets marks before new_marks waiting r
     let x' : IsExploring links start marks (rest ++ node ∷ []) = subst (IsExploring links start marks) w x in
     let whole : take n (new_marks ++ drop (length new_marks) marks) ≡ new_marks = written_back new_marks marks n long in
     rw whole (exploring_on links start (map items_of groups) g marks new_marks rest new_waiting node x' a', long)
-
-pub member_read : {X : Type 0} (xs : List X) (i : ℕ) (x : X) → i < length xs → x ≡ get_or xs i x → x ∈ xs
-member_read xs i x l e = subst (λ y. y ∈ xs) (sym e) (member-get_or xs i x l)

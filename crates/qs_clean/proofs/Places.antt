@@ -1,10 +1,11 @@
 -- The places that are marked, and their numbers.
 use Rattle.std.proofs.Common.{◌≡◌, ◌≢◌, ◌⊎◌, ◌↔◌, ℕ, zero, suc, ◌+◌, ◌<◌, ◌≤◌, ◌==◌, Bool, false, true, ◌&&◌, List, [], ◌∷◌, length, get_or, refl, sym, ◌∙◌, ap, subst, inl, inr, ⊎_elim, arith}
 use Rattle.std.specs.Prelude.{if◌then◌else◌}
-use Rattle.std.proofs.lemmas.Bool.Decides.{nat_tests}
+use Rattle.std.specs.Cmp.Derive.{both_true}
+use Rattle.std.proofs.lemmas.Bool.{eqb-true, eq-eqb, ne_eqb, and_parts}
 use Rattle.qs_tree.specs.Lists.{◌∈◌, Ascends}
-use Rattle.qs_clean.specs.Links.{IsMarked}
-use Rattle.qs_clean.specs.Steps.{each_pair, both, marked, numbering}
+use Rattle.qs_clean.specs.working.Links.{IsMarked}
+use Rattle.qs_clean.specs.working.Steps.{each_pair, both, marked, numbering}
 use Rattle.qs_clean.specs.Cleaning.{number_in}
 
 -- the marked places of a list, counted from i
@@ -68,21 +69,11 @@ length-numbering c [] = refl
 length-numbering c (true ∷ marks) = ap suc (length-numbering (c + 1) marks)
 length-numbering c (false ∷ marks) = ap suc (length-numbering c marks)
 
--- tests of numbers
-same_number : (n m : ℕ) → n ≡ m → (n == m) ≡ true
-same_number n m e = grind (arith, nat_tests)
-
-other_number : (n m : ℕ) → n ≢ m → (n == m) ≡ false
-other_number n m e = grind (arith, nat_tests)
-
-number_tested : (n m : ℕ) → (n == m) ≡ true → n ≡ m
-number_tested n m e = grind (arith, nat_tests)
-
 number_here : (i n m : ℕ) (ms : List ℕ) → m ≡ n → number_in i (m ∷ ms) n ≡ i
-number_here i n m ms e = ap (λ b. if b then i else number_in (i + 1) ms n) (same_number m n e)
+number_here i n m ms e = ap (λ b. if b then i else number_in (i + 1) ms n) (eq-eqb m n e)
 
 number_behind : (i n m : ℕ) (ms : List ℕ) → m ≢ n → number_in i (m ∷ ms) n ≡ number_in (i + 1) ms n
-number_behind i n m ms ne = ap (λ b. if b then i else number_in (i + 1) ms n) (other_number m n ne)
+number_behind i n m ms ne = ap (λ b. if b then i else number_in (i + 1) ms n) (ne_eqb m n ne)
 
 -- the number of a marked place is its place among the marked ones
 numbering_from : (i c : ℕ) (marks : List Bool) (k : ℕ) → IsMarked marks k → get_or (numbering c marks) k 0 ≡ number_in (c + 1) (places i marks) (i + k)
@@ -107,9 +98,9 @@ module _ (m : ℕ) (ms : List ℕ) where
   first_cases n j = tested (m == n) refl j
     where
       tested : (b : Bool) → (m == n) ≡ b → n ∈ (m ∷ ms) → (m ≡ n) ⊎ ((m ≢ n) × (n ∈ ms))
-      tested true e _ = inl (number_tested m n e)
+      tested true e _ = inl (eqb-true m n e)
       tested false e (inl s) = inl (sym s)
-      tested false e (inr k) = inr ((λ s. let f : true ≡ false = sym (same_number m n s) ∙ e in cc), k)
+      tested false e (inr k) = inr ((λ s. let f : true ≡ false = sym (eq-eqb m n s) ∙ e in cc), k)
 
 -- numbers are in range, of one place each, and all of them are taken
 pub number_range : (i : ℕ) (ms : List ℕ) (n : ℕ) → n ∈ ms → (i ≤ number_in i ms n) × (number_in i ms n < i + length ms)
@@ -137,22 +128,14 @@ number_all i [] a j low high = absurd (omega arith)
 number_all i (m ∷ ms) a j low high = tested (i == j) refl (λ l. number_all (i + 1) ms a.1 j l (omega arith))
   where
     tested : (b : Bool) → (i == j) ≡ b → (i + 1 ≤ j → (n : ℕ) × (n ∈ ms) × (number_in (i + 1) ms n ≡ j)) → (n : ℕ) × (n ∈ (m ∷ ms)) × (number_in i (m ∷ ms) n ≡ j)
-    tested true e rest = (m, inl refl, number_here i m m ms refl ∙ number_tested i j e)
+    tested true e rest = (m, inl refl, number_here i m m ms refl ∙ eqb-true i j e)
     tested false e rest =
-        let ne : i ≢ j = λ s. (let f : true ≡ false = sym (same_number i j s) ∙ e in cc) in
+        let ne : i ≢ j = λ s. (let f : true ≡ false = sym (eq-eqb i j s) ∙ e in cc) in
         let (n, k, f) = rest (omega arith) in
         let above : m < n = a.0 n k in
         (n, inr k, number_behind i n m ms (λ s. omega arith) ∙ f)
 
 -- marks that stand in both lists
-and_parts : (a b : Bool) → (a && b) ≡ true → (a ≡ true) × (b ≡ true)
-and_parts true b e = (refl, e)
-and_parts false b e = absurd cc
-
-and_from : (a b : Bool) → a ≡ true → b ≡ true → (a && b) ≡ true
-and_from true b p q = q
-and_from false b p q = absurd cc
-
 pub in_both_from : (first second : List Bool) (n : ℕ) → IsMarked (each_pair both first second) n → IsMarked first n × IsMarked second n
 in_both_from [] second n m = absurd cc
 in_both_from (a ∷ first) [] n m = absurd cc
@@ -162,7 +145,7 @@ in_both_from (a ∷ first) (b ∷ second) (suc n) m = in_both_from first second 
 pub in_both_to : (first second : List Bool) (n : ℕ) → IsMarked first n → IsMarked second n → IsMarked (each_pair both first second) n
 in_both_to [] second n p q = absurd cc
 in_both_to (a ∷ first) [] n p q = absurd cc
-in_both_to (a ∷ first) (b ∷ second) zero p q = and_from a b p q
+in_both_to (a ∷ first) (b ∷ second) zero p q = both_true p q
 in_both_to (a ∷ first) (b ∷ second) (suc n) p q = in_both_to first second n p q
 
 pub length-both : (first second : List Bool) → length second ≡ length first → length (each_pair both first second) ≡ length first

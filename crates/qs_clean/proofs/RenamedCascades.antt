@@ -5,7 +5,8 @@ use Rattle.qs_pattern.specs.Rules.{Rule}
 use Rattle.qs_graph.specs.Graphs.{QGraph}
 use Rattle.qs_canon.specs.Rounds.{Stage}
 use Rattle.qs_clean.specs.Cascades.{Cascade, Left, Ending, a_graph, no_arc, all_done, no_more, limit, empty, goes_on}
-use Rattle.qs_clean.specs.Renaming.{IsRenaming, renamed_rule, renamed_arc, renamed_graph, renamed_done, renamed_stage, renamed_left}
+use Rattle.qs_clean.specs.Renaming.{IsRenaming, renamed_rule, renamed_arc, renamed_graph, renamed_left}
+use Rattle.qs_clean.specs.working.Renaming.{renamed_done, renamed_stage}
 use Rattle.qs_clean.proofs.CascadeExistence.{AllAccepted}
 use Rattle.qs_clean.proofs.RenamedFirings.{accepted_bound}
 use Rattle.qs_clean.proofs.RenamedRounds.{closes_renamed, needs_renamed}

@@ -5,8 +5,9 @@ use Rattle.qs_graph.specs.Graphs.{Arc, QGraph, IsPath, IsEntry, IsExit, arcs_at}
 use Rattle.qs_firing.specs.Firings.{Firing}
 use Rattle.qs_canon.specs.Rounds.{Stage, firings}
 use Rattle.qs_clean.specs.Cleaning.{IsDenoted, Stays, IsEndOf, renumbered, Cleans}
-use Rattle.qs_clean.specs.Renaming.{IsRenaming, renamed_arc, renamed_graph, renamed_firing, renamed_stage}
-use Rattle.qs_clean.proofs.ArcLists.{in_map, to_map}
+use Rattle.qs_clean.specs.Renaming.{IsRenaming, renamed_arc, renamed_graph}
+use Rattle.qs_clean.specs.working.Renaming.{renamed_firing, renamed_stage}
+use Rattle.qs_tree.proofs.Members.{mapped, in_map}
 use Rattle.qs_clean.proofs.RenamingUndone.{arcs_undone}
 use Rattle.qs_clean.proofs.RenamedFirings.{map_past, path_renamed, arcs_at_renamed}
 use Rattle.qs_clean.proofs.RenamedRounds.{firings_renamed}
@@ -15,21 +16,21 @@ module _ (f : ℕ → ℕ) where
   -- the entry and the exit stay
   entry_renamed : (G : QGraph) (n : ℕ) → IsEntry G n ↔ IsEntry (renamed_graph f G) n
   entry_renamed G n = (
-    (λ h. record { node = h.node; none_in = λ arc i t. let (was, j, e) = in_map (renamed_arc f) G.arcs arc i in h.none_in was j (ap (λ (x : Arc). x.to) (sym e) ∙ t) }),
-    (λ h. record { node = h.node; none_in = λ arc i. h.none_in (renamed_arc f arc) (to_map (renamed_arc f) G.arcs arc i) }),
+    (λ h. record { node = h.node; none_in = λ arc i t. let (was, j, e) = mapped (renamed_arc f) G.arcs arc i in h.none_in was j (ap (λ (x : Arc). x.to) (sym e) ∙ t) }),
+    (λ h. record { node = h.node; none_in = λ arc i. h.none_in (renamed_arc f arc) (in_map (renamed_arc f) G.arcs arc i) }),
   )
 
   exit_renamed : (G : QGraph) (n : ℕ) → IsExit G n ↔ IsExit (renamed_graph f G) n
   exit_renamed G n = (
-    (λ h. record { node = h.node; none_out = λ arc i t. let (was, j, e) = in_map (renamed_arc f) G.arcs arc i in h.none_out was j (ap (λ (x : Arc). x.from) (sym e) ∙ t) }),
-    (λ h. record { node = h.node; none_out = λ arc i. h.none_out (renamed_arc f arc) (to_map (renamed_arc f) G.arcs arc i) }),
+    (λ h. record { node = h.node; none_out = λ arc i t. let (was, j, e) = mapped (renamed_arc f) G.arcs arc i in h.none_out was j (ap (λ (x : Arc). x.from) (sym e) ∙ t) }),
+    (λ h. record { node = h.node; none_out = λ arc i. h.none_out (renamed_arc f arc) (in_map (renamed_arc f) G.arcs arc i) }),
   )
 
   -- so do the ends of arcs
   ends_renamed : (arcs : List Arc) (n : ℕ) → IsEndOf arcs n ↔ IsEndOf (map (renamed_arc f) arcs) n
   ends_renamed arcs n = (
-    (λ h. (renamed_arc f h.0, to_map (renamed_arc f) arcs h.0 h.1, h.2)),
-    (λ h. let (was, j, e) = in_map (renamed_arc f) arcs h.0 h.1 in (was, j, subst (λ (x : Arc). (n ≡ x.from) ⊎ (n ≡ x.to)) e h.2)),
+    (λ h. (renamed_arc f h.0, in_map (renamed_arc f) arcs h.0 h.1, h.2)),
+    (λ h. let (was, j, e) = mapped (renamed_arc f) arcs h.0 h.1 in (was, j, subst (λ (x : Arc). (n ≡ x.from) ⊎ (n ≡ x.to)) e h.2)),
   )
 
   -- and the arcs that are denoted
@@ -37,11 +38,11 @@ module _ (f : ℕ → ℕ) where
   denoted_renamed S k = (
     (λ d. record {
       by = renamed_firing f d.by;
-      done = subst (λ xs. renamed_firing f d.by ∈ xs) (sym (firings_renamed f S)) (to_map (renamed_firing f) (firings S) d.by d.done);
+      done = subst (λ xs. renamed_firing f d.by ∈ xs) (sym (firings_renamed f S)) (in_map (renamed_firing f) (firings S) d.by d.done);
       used = d.used;
     }),
     (λ d.
-        let (x, j, e) = in_map (renamed_firing f) (firings S) d.by (subst (λ xs. d.by ∈ xs) (firings_renamed f S) d.done) in
+        let (x, j, e) = mapped (renamed_firing f) (firings S) d.by (subst (λ xs. d.by ∈ xs) (firings_renamed f S) d.done) in
         record { by = x; done = j; used = subst (λ (y : Firing). k ∈ y.path) e d.used }),
   )
 

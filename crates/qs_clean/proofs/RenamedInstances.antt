@@ -14,9 +14,11 @@ use Rattle.qs_pattern.specs.Variables.{same_var}
 use Rattle.qs_pattern.specs.Patterns.{Patterns, no_pattern, node_first, tree_var_first, forest_var_first}
 use Rattle.qs_pattern.specs.Substitutions.{Substitution, value_of}
 use Rattle.qs_pattern.specs.Instances.{label_in, tree_in, trees_in, label_of, inst, IsLabel, IsHeadCovered, IsCovered}
-use Rattle.qs_pattern.specs.Conditions.{Comparing, within, outside, Compares, all, any, Condition, Conditions, compared, negated, combined, no_condition, condition_first, Holds, AllHold, SomeHolds, IsConditionCovered, AreConditionsCovered}
-use Rattle.qs_clean.specs.Renaming.{IsRenaming, renamed_label, renamed_forest, renamed_tree, renamed_head, renamed_patterns, renamed_condition, renamed_conditions, renamed_value, renamed_substitution}
-use Rattle.qs_clean.proofs.ArcLists.{in_map, to_map}
+use Rattle.qs_pattern.specs.Conditions.{Comparing, within, outside, Compares, all, any, Condition, Conditions, compared, negated, combined, no_condition, condition_first, Holds, AllHold, SomeHolds, IsConditionCovered}
+use Rattle.qs_pattern.specs.working.Conditions.{AreConditionsCovered}
+use Rattle.qs_clean.specs.Renaming.{IsRenaming, renamed_label, renamed_forest, renamed_tree, renamed_head, renamed_patterns, renamed_condition, renamed_conditions}
+use Rattle.qs_clean.specs.working.Renaming.{renamed_value, renamed_substitution}
+use Rattle.qs_tree.proofs.Members.{mapped, in_map}
 use Rattle.qs_clean.proofs.RenamingUndone.{tree_undone}
 
 module _ (f : ℕ → ℕ) where
@@ -81,19 +83,19 @@ module _ (f : ℕ → ℕ) where
 module _ {X : Type 0} (there back : X → X) (undone : (x : X) → back (there x) ≡ x) where
   pub from_map_undone : (xs : List X) (x : X) → there x ∈ map there xs → x ∈ xs
   from_map_undone xs x i =
-      let (y, j, e) = in_map there xs (there x) i in
+      let (y, j, e) = mapped there xs (there x) i in
       subst (λ z. z ∈ xs) (sym (ap back e ∙ undone y) ∙ undone x) j
 
   within_map : (xs ys : List X) → ((x : X) → x ∈ xs → x ∈ ys) ↔ ((y : X) → y ∈ map there xs → y ∈ map there ys)
   within_map xs ys = (
-    (λ h y i. let (x, j, e) = in_map there xs y i in subst (λ z. z ∈ map there ys) (sym e) (to_map there ys x (h x j))),
-    (λ h x i. from_map_undone ys x (h (there x) (to_map there xs x i))),
+    (λ h y i. let (x, j, e) = mapped there xs y i in subst (λ z. z ∈ map there ys) (sym e) (in_map there ys x (h x j))),
+    (λ h x i. from_map_undone ys x (h (there x) (in_map there xs x i))),
   )
 
   outside_map : (xs ys : List X) → ((x : X) → x ∈ xs → x ∈ ys → ⊥) ↔ ((y : X) → y ∈ map there xs → y ∈ map there ys → ⊥)
   outside_map xs ys = (
-    (λ h y i k. let (x, j, e) = in_map there xs y i in h x j (from_map_undone ys x (subst (λ z. z ∈ map there ys) e k))),
-    (λ h x i k. h (there x) (to_map there xs x i) (to_map there ys x k)),
+    (λ h y i k. let (x, j, e) = mapped there xs y i in h x j (from_map_undone ys x (subst (λ z. z ∈ map there ys) e k))),
+    (λ h x i k. h (there x) (in_map there xs x i) (in_map there ys x k)),
   )
 
 module _ (f g : ℕ → ℕ) (is : IsRenaming f g) (s : Substitution) where

@@ -15,7 +15,8 @@ use Rattle.qs_pattern.specs.Rules.{Rule}
 use Rattle.qs_graph.specs.Graphs.{Arc, QGraph}
 use Rattle.qs_firing.specs.Firings.{Firing}
 use Rattle.qs_canon.specs.Rounds.{Done, Stage}
-use Rattle.qs_clean.specs.Renaming.{renamed_label, renamed_forest, renamed_tree, renamed_head, renamed_patterns, renamed_condition, renamed_conditions, renamed_rule, renamed_arc, renamed_graph, renamed_value, renamed_pair, renamed_substitution, renamed_firing, renamed_done, renamed_stage}
+use Rattle.qs_clean.specs.Renaming.{renamed_label, renamed_forest, renamed_tree, renamed_head, renamed_patterns, renamed_condition, renamed_conditions, renamed_rule, renamed_arc, renamed_graph}
+use Rattle.qs_clean.specs.working.Renaming.{renamed_value, renamed_pair, renamed_substitution, renamed_firing, renamed_done, renamed_stage}
 
 pub map_undone : {X : Type 0} (there back : X → X) → ((x : X) → back (there x) ≡ x) → (xs : List X) → map back (map there xs) ≡ xs
 map_undone there back undone [] = refl
@@ -91,7 +92,7 @@ module _ (f g : ℕ → ℕ) (undone : (n : ℕ) → g (f n) ≡ n) where
   firing_undone x = λ i. record { rule = x.rule; path = x.path; values = substitution_undone x.values i }
 
   done_undone : (d : Done) → renamed_done g (renamed_done f d) ≡ d
-  done_undone d = λ i. record { firing = firing_undone d.firing i; first = d.first; round = d.round }
+  done_undone d = λ i. record { firing = firing_undone d.firing i; first = d.first; round = d.round; met = d.met }
 
   pub stage_undone : (S : Stage) → renamed_stage g (renamed_stage f S) ≡ S
   stage_undone S = λ i. record { graph = graph_undone S.graph i; done = map_undone (renamed_done f) (renamed_done g) done_undone S.done i }

@@ -4,13 +4,13 @@ use Rattle.std.proofs.lemmas.List.{nil_from_length}
 use Rattle.qs_tree.specs.Lists.{◌∈◌}
 use Rattle.qs_graph.specs.Graphs.{Arc, QGraph, IsNode, IsEntry, IsExit, IsValid, arcs_at}
 use Rattle.qs_graph.specs.Kept.{IsKept}
-use Rattle.qs_graph.proofs.Lines.{member-slice_get}
+use Rattle.qs_tree.proofs.Members.{in_at, mapped, in_map, map-same}
 use Rattle.qs_graph.proofs.Paths.{path_above, Joined, joined_arc, joined_on, not_joined}
 use Rattle.qs_canon.specs.Rounds.{Stage}
-use Rattle.qs_clean.specs.Steps.{each_pair, marked, numbering, numbered_arc, if_kept, AreMarks}
+use Rattle.qs_clean.specs.working.Steps.{each_pair, marked, numbering, numbered_arc, if_kept, AreMarks}
 use Rattle.qs_clean.specs.Cleaning.{Cleans, IsEndOf, number_in, renumbered}
 use Rattle.qs_clean.proofs.Places.{places_ascend, in_places, length-places, numbering-number_in, number_range, number_one, number_all}
-use Rattle.qs_clean.proofs.ArcLists.{in_map, to_map, map_same, in_arcs_at, to_arcs_at, arcs_at-places, each_if_kept, length-if_kept, length-keeps}
+use Rattle.qs_clean.proofs.ArcLists.{in_arcs_at, to_arcs_at, arcs_at-places, each_if_kept, length-if_kept, length-keeps}
 use Rattle.qs_clean.proofs.Kept.{kept, left, kept_marks, left_marks, kept_arc, kept_are, kept_ends, kept_into, kept_out_of, entry_left, exit_left, left_are}
 
 member_some : {X : Type 0} (xs : List X) (x : X) → x ∈ xs → 0 < length xs
@@ -52,12 +52,12 @@ module _ (S : Stage) (entry exit : ℕ) (denoted from_entry to_exit : List Bool)
 
   was_arc : (arc : Arc) → arc ∈ H.arcs → WasArc arc
   was_arc arc i =
-      let (was, j, e) = in_map (renumbered ns) (arcs_at S.graph.arcs ks) arc i in
+      let (was, j, e) = mapped (renumbered ns) (arcs_at S.graph.arcs ks) arc i in
       let (k, m, is) = in_arcs_at S.graph.arcs ks was j in
       let ends = kept_ends S entry exit denoted from_entry to_exit are k was m is in
       record {
         was = was;
-        is_in = member-slice_get S.graph.arcs k was is;
+        is_in = in_at S.graph.arcs k was is;
         from_left = ends.0;
         to_left = ends.1;
         from = ap (λ (x : Arc). x.from) e;
@@ -65,7 +65,7 @@ module _ (S : Stage) (entry exit : ℕ) (denoted from_entry to_exit : List Bool)
       }
 
   is_arc : (k : ℕ) (arc : Arc) → k ∈ ks → slice_get S.graph.arcs k ≡ Some arc → renumbered ns arc ∈ H.arcs
-  is_arc k arc i is = to_map (renumbered ns) (arcs_at S.graph.arcs ks) arc (to_arcs_at S.graph.arcs ks k arc i is)
+  is_arc k arc i is = in_map (renumbered ns) (arcs_at S.graph.arcs ks) arc (to_arcs_at S.graph.arcs ks k arc i is)
 
   node : (n : ℕ) → n ∈ ns → IsNode H (number n)
   node n i = let r = number_range 1 ns n i in (r.0, omega arith)
@@ -203,7 +203,7 @@ module _ (S : Stage) (entry exit : ℕ) (denoted from_entry to_exit : List Bool)
   arcs_are =
       each_if_kept numbers S.graph.arcs kept_bits
       ∙ ap (map (numbered_arc numbers)) (sym (arcs_at-places S.graph.arcs kept_bits kept_bits_len))
-      ∙ map_same (numbered_arc numbers) (renumbered ns) (arcs_at S.graph.arcs ks) same_numbers
+      ∙ map-same (numbered_arc numbers) (renumbered ns) (arcs_at S.graph.arcs ks) same_numbers
 
   graph_is : new_graph ≡ H
   graph_is =

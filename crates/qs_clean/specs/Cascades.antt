@@ -16,12 +16,14 @@ pub data Ending : Type 0 where
   all_done : Ending
   by_limit : Ending
 
--- The cascade of these grammars from a graph, with the limit L on the firings of each: a grammar that needs more ends it
--- by the limit; one whose cleaned closure has no arc ends it; otherwise the next one goes on with the cleaned closure.
+-- The cascade of these grammars from a graph, with the limit L on the firings of each: a grammar that needs more ends
+-- it by the limit; one whose cleaned closure has no arc ends it;
+-- otherwise the next one goes on with the cleaned closure.
 pub data Cascade (L : ℕ) : QGraph → List (List Rule) → List Left → Ending → Type 0 where
   no_more : {G : QGraph} → Cascade L G [] [] all_done
   limit : {G : QGraph} {R : List Rule} {Rs : List (List Rule)} → Needs R G L → Cascade L G (R ∷ Rs) (over ∷ []) by_limit
-  empty : {G E : QGraph} {R : List Rule} {Rs : List (List Rule)} {C : Stage} → Closes R G C → length C.done ≤ L → Cleans C E → E.arcs ≡ []
+  empty : {G E : QGraph} {R : List Rule} {Rs : List (List Rule)} {C : Stage} → Closes R G C → length C.done ≤ L
+      → Cleans C E → E.arcs ≡ []
       → Cascade L G (R ∷ Rs) (no_arc (length C.done) ∷ []) all_done
   goes_on : {G H : QGraph} {R : List Rule} {Rs : List (List Rule)} {C : Stage} {rest : List Left} {end : Ending}
       → Closes R G C → length C.done ≤ L → Cleans C H → 0 < length H.arcs → Cascade L H Rs rest end

@@ -1,6 +1,7 @@
 -- Cleaning. (This project's exact reading of Colmerauer's second step. The definition speaks of paths; the code marks
 -- nodes from both ends.)
-use Rattle.std.specs.Prelude.{ℕ, ◌+◌, ◌<◌, ◌≤◌, ◌≡◌, ◌↔◌, ◌⊎◌, ◌==◌, if◌then◌else◌, List, [], ◌∷◌, length, map, Option, Some, None}
+use Rattle.std.specs.Prelude.{ℕ, ◌+◌, ◌<◌, ◌≤◌, ◌≡◌, ◌↔◌, ◌⊎◌, ◌==◌, if◌then◌else◌, List, [], ◌∷◌, length, map, Option}
+use Rattle.std.specs.Prelude.{Some, None}
 use Rattle.qs_tree.specs.Lists.{◌∈◌, Ascends}
 use Rattle.qs_pattern.specs.Rules.{Rule, IsAccepted}
 use Rattle.qs_graph.specs.Graphs.{Arc, QGraph, arcs_at, IsPath, IsEntry, IsExit, IsValid}
@@ -53,8 +54,8 @@ abbrev pub IsLeft : Stage → Option QGraph → Type 0
 IsLeft S None = (E : QGraph) × Cleans S E × (E.arcs ≡ [])
 IsLeft S (Some G) = Cleans S G × (0 < length G.arcs)
 
--- c is a closure over a valid graph: some accepted rules close with c from some valid graph, and the numbers of the arcs of
--- both fit the program's.
+-- c is a closure over a valid graph: some accepted rules close with c from some valid graph, and the numbers of the
+-- arcs of both fit the program's.
 pub record IsClosureOfValid (c : ClosureOf) : Type 0 where
   pub rules : List Rule
   pub accepted : (rule : Rule) → rule ∈ rules → IsAccepted rule

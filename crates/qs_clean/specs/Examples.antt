@@ -37,12 +37,13 @@ side (l ∷ ls) = node_first (head.Label l) no_pattern (side ls)
 abbrev pub rule : List Label → List Label → Rule
 rule left right = record { left = side left; right = side right; condition = None; unique = false }
 
--- An arc, and a firing that is done, of the rule with this number on this path.
+-- An arc, and a firing that is done, of the rule with this number on this path, which met no arc.
 abbrev pub arc : ℕ → Label → ℕ → Arc
 arc a l b = record { from = a; to = b; tree = leaf l }
 
 abbrev pub done : ℕ → List ℕ → ℕ → ℕ → Done
-done r path first round = record { firing = record { rule = r; path = path; values = [] }; first = first; round = round }
+done r path first round =
+    record { firing = record { rule = r; path = path; values = [] }; first = first; round = round; met = false }
 
 -- One arc A.
 abbrev pub one_arc : QGraph
@@ -78,8 +79,8 @@ equal_rules_cleaned = record { nodes = 2; arcs = arc 1 B 2 ∷ arc 1 B 2 ∷ [] 
 abbrev pub endless_rule : List Rule
 endless_rule = rule (A ∷ []) (A ∷ []) ∷ []
 
--- The rules A + B == X and B + C == Y on the arcs A, B, C: both fire, so that each of A, B and C is denoted, and neither X
--- nor Y leads from the entry to the exit.
+-- The rules A + B == X and B + C == Y on the arcs A, B, C: both fire, so that each of A, B and C is denoted, and
+-- neither X nor Y leads from the entry to the exit.
 abbrev pub overlapping_rules : List Rule
 overlapping_rules = rule (A ∷ B ∷ []) (X ∷ []) ∷ rule (B ∷ C ∷ []) (Y ∷ []) ∷ []
 

@@ -1,25 +1,21 @@
--- Other numbers for the labels. A label is kept as the number of its text, so that which number it has tells only where its
--- text stands in a list. Here each kind of thing that has labels is written with other numbers for them. (This project.)
+-- Other numbers for the labels. A label is kept as the number of its text, so that which number it has tells only where
+-- its text stands in a list. Here each kind of thing that has labels is written with other numbers for them.
+-- (This project.)
 use Rattle.std.specs.Prelude.{ℕ, ◌≡◌, map}
 use Rattle.std.specs.Option.{option_map}
 use Rattle.qs_tree.specs.declared.cell.Label.{Label}
 use Rattle.qs_tree.specs.Trees.{Forest, no_tree, first_tree, Tree}
-use Rattle.qs_pattern.specs.declared.variable.Var.{Var}
 use Rattle.qs_pattern.specs.declared.pattern.Head.{Head}
 use Rattle.qs_pattern.specs.declared.pattern.Head.TheVariants as head
-use Rattle.qs_pattern.specs.declared.subst.Value.{Value}
-use Rattle.qs_pattern.specs.declared.subst.Value.TheVariants as value
 use Rattle.qs_pattern.specs.Patterns.{Patterns, no_pattern, node_first, tree_var_first, forest_var_first}
-use Rattle.qs_pattern.specs.Substitutions.{Substitution}
-use Rattle.qs_pattern.specs.Conditions.{Condition, Conditions, compared, negated, combined, no_condition, condition_first}
+use Rattle.qs_pattern.specs.Conditions.{Condition, Conditions, compared, negated, combined, no_condition}
+use Rattle.qs_pattern.specs.Conditions.{condition_first}
 use Rattle.qs_pattern.specs.Rules.{Rule}
 use Rattle.qs_graph.specs.Graphs.{Arc, QGraph}
-use Rattle.qs_firing.specs.Firings.{Firing}
-use Rattle.qs_canon.specs.Rounds.{Done, Stage}
 use Rattle.qs_clean.specs.Cascades.{Left, a_graph, no_arc, over}
 
--- f gives each label a number in place of its own, and g gives its own back: no two labels get the same number, and each
--- number is some label's.
+-- f gives each label a number in place of its own, and g gives its own back: no two labels get the same number, and
+-- each number is some label's.
 pub record IsRenaming (f g : ℕ → ℕ) : Type 0 where
   pub back : (n : ℕ) → g (f n) ≡ n
   pub forth : (n : ℕ) → f (g n) ≡ n
@@ -43,7 +39,8 @@ renamed_head f (head.Var v) = head.Var v
 
 abbrev pub renamed_patterns : (ℕ → ℕ) → Patterns → Patterns
 renamed_patterns f no_pattern = no_pattern
-renamed_patterns f (node_first h kids behind) = node_first (renamed_head f h) (renamed_patterns f kids) (renamed_patterns f behind)
+renamed_patterns f (node_first h kids behind) =
+    node_first (renamed_head f h) (renamed_patterns f kids) (renamed_patterns f behind)
 renamed_patterns f (tree_var_first v behind) = tree_var_first v (renamed_patterns f behind)
 renamed_patterns f (forest_var_first v behind) = forest_var_first v (renamed_patterns f behind)
 
@@ -73,29 +70,6 @@ renamed_arc f arc = record { from = arc.from; to = arc.to; tree = renamed_tree f
 
 abbrev pub renamed_graph : (ℕ → ℕ) → QGraph → QGraph
 renamed_graph f G = record { nodes = G.nodes; arcs = map (renamed_arc f) G.arcs }
-
--- A substitution has its values written so.
-abbrev pub renamed_value : (ℕ → ℕ) → Value → Value
-renamed_value f (value.Label l) = value.Label (renamed_label f l)
-renamed_value f (value.Tree t) = value.Tree (renamed_tree f t)
-renamed_value f (value.Forest ts) = value.Forest (map (renamed_tree f) ts)
-
-abbrev pub renamed_pair : (ℕ → ℕ) → Var × Value → Var × Value
-renamed_pair f p = (p.0, renamed_value f p.1)
-
-abbrev pub renamed_substitution : (ℕ → ℕ) → Substitution → Substitution
-renamed_substitution f s = map (renamed_pair f) s
-
--- A firing has its substitution written so; its rule and its path are numbers of other things, and stay.
-abbrev pub renamed_firing : (ℕ → ℕ) → Firing → Firing
-renamed_firing f x = record { rule = x.rule; path = x.path; values = renamed_substitution f x.values }
-
--- A stage has its graph and the firings that are done written so.
-abbrev pub renamed_done : (ℕ → ℕ) → Done → Done
-renamed_done f d = record { firing = renamed_firing f d.firing; first = d.first; round = d.round }
-
-abbrev pub renamed_stage : (ℕ → ℕ) → Stage → Stage
-renamed_stage f S = record { graph = renamed_graph f S.graph; done = map (renamed_done f) S.done }
 
 -- What a grammar leaves has its graph written so.
 abbrev pub renamed_left : (ℕ → ℕ) → Left → Left

@@ -4,8 +4,9 @@ ghost use Rattle.std.specs.Prelude.{◌≡◌, ◌↔◌, ◌⊎◌, ◌<◌, �
 ghost use Rattle.qs_tree.specs.Lists.{◌∈◌};
 ghost use Rattle.qs_graph.specs.Graphs.{Arc};
 ghost use Rattle.qs_canon.specs.Rounds.{Done};
-ghost use Rattle.qs_clean.specs.Links.{IsMarked};
-ghost use Rattle.qs_clean.specs.Steps.{IsUsed, each_pair, free_link, keeps_mark, both, marked, numbering, if_kept};
+ghost use Rattle.qs_clean.specs.working.Links.{IsMarked};
+ghost use Rattle.qs_clean.specs.working.Steps.{IsUsed, each_pair, free_link, keeps_mark, both, marked, numbering};
+ghost use Rattle.qs_clean.specs.working.Steps.{if_kept};
 
 use crate::links::Link;
 use qs_canon::Placed;
@@ -132,7 +133,7 @@ pub fn left_arcs(
             left.push(Edge {
                 from: numbers[edge.from as usize],
                 to: numbers[edge.to as usize],
-                tree: edge.tree.copy()?,
+                tree: edge.tree.clone()?,
             })?;
         }
     }

@@ -2,7 +2,7 @@
 
 ghost use Rattle.std.specs.Prelude.{◌≤◌, IfOk, length};
 ghost use Rattle.qs_clean.specs.Cleaning.{IsLeft, IsClosureOfValid};
-ghost use Rattle.qs_clean.specs.Steps.{AreMarks};
+ghost use Rattle.qs_clean.specs.working.Steps.{AreMarks};
 
 use crate::arcs::{denoted_arcs, free_links, in_both, kept_arcs, left_arcs, numbered};
 use crate::links::{all_turned, reached};
@@ -10,7 +10,8 @@ use qs_canon::Closure;
 use qs_graph::Graph;
 use std::alloc::{AllocError, Global};
 
-// The arcs that are denoted, the nodes that undenoted arcs reach from the entry, and those from which they reach the exit.
+// The arcs that are denoted, the nodes that undenoted arcs reach from the entry,
+// and those from which they reach the exit.
 #[derive(Drop)]
 struct Marks {
     denoted: Vec<bool>,
@@ -18,8 +19,8 @@ struct Marks {
     to_exit: Vec<bool>,
 }
 
-/// What cleaning leaves of a closure over a valid graph, with its nodes numbered from 1 in ascending order. None exactly
-/// where it leaves no arc. Time and memory are linear in the arcs, the nodes and the firings.
+/// What cleaning leaves of a closure over a valid graph, with its nodes numbered from 1 in ascending order. None
+/// exactly where it leaves no arc. Time and memory are linear in the arcs, the nodes and the firings.
 pub fn clean(alloc: Global, closure: &Closure) -> Result<Option<Graph>, AllocError>
     requires { IsClosureOfValid closure.now }
     ensures { IfOk result (IsLeft closure.now.stage) }
@@ -46,7 +47,8 @@ pub fn clean(alloc: Global, closure: &Closure) -> Result<Option<Graph>, AllocErr
 // The marks of a closure.
 fn marks_of(alloc: Global, closure: &Closure) -> Result<Marks, AllocError>
     requires { IsClosureOfValid closure.now }
-    ensures marks { IfOk result (λ m. AreMarks closure.now.stage closure.now.entry closure.now.exit m.denoted.items m.from_entry.items m.to_exit.items) }
+    ensures marks { IfOk result (λ m. AreMarks closure.now.stage closure.now.entry closure.now.exit m.denoted.items
+        m.from_entry.items m.to_exit.items) }
     ensures few { IfOk result (λ m. length m.from_entry.items ≤ 4294967296) }
 {
     let denoted = denoted_arcs(alloc, &closure.firings, closure.edges.len())?;

@@ -11,7 +11,8 @@ pub fn a_becomes_b()
     ensures closes { Closes example.one_rule example.one_arc example.one_rule_closure }
     ensures once { length example.one_rule_closure.done ≡ 1 }
     ensures cleans { Cleans example.one_rule_closure example.one_rule_cleaned }
-    ensures cascade { Cascade 1 example.one_arc (example.one_rule ∷ []) (a_graph 1 example.one_rule_cleaned ∷ []) all_done }
+    ensures cascade { Cascade 1 example.one_arc (example.one_rule ∷ [])
+        (a_graph 1 example.one_rule_cleaned ∷ []) all_done }
 {}
 
 /// Two equal rules A == B on one arc A fire both, and cleaning leaves two equal arcs B.
@@ -19,7 +20,8 @@ pub fn equal_rules_give_two_arcs()
     ensures closes { Closes example.equal_rules example.one_arc example.equal_rules_closure }
     ensures twice { length example.equal_rules_closure.done ≡ 2 }
     ensures cleans { Cleans example.equal_rules_closure example.equal_rules_cleaned }
-    ensures cascade { Cascade 2 example.one_arc (example.equal_rules ∷ []) (a_graph 2 example.equal_rules_cleaned ∷ []) all_done }
+    ensures cascade { Cascade 2 example.one_arc (example.equal_rules ∷ [])
+        (a_graph 2 example.equal_rules_cleaned ∷ []) all_done }
 {}
 
 /// The rule A == A on one arc A needs more than five firings, so that a cascade with that limit ends by it.

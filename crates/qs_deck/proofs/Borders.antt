@@ -7,7 +7,7 @@ use Rattle.std.proofs.lemmas.List.{take-take}
 use Rattle.qs_lex.specs.Characters.{line_feed}
 use Rattle.qs_lex.specs.declared.refusal.Cause.{Cause}
 use Rattle.qs_lex.specs.declared.refusal.Refusal.{Refusal}
-use Rattle.qs_deck.specs.Answers.{IsRefusedAt}
+use Rattle.qs_lex.specs.Refusals.{Tells}
 use Rattle.qs_tree.specs.Lists.{◌∈◌}
 use Rattle.qs_lex.specs.declared.token.Token.{Token}
 use Rattle.qs_lex.specs.Tokens.{AreSpansFrom}
@@ -31,13 +31,13 @@ few_tokens text at [] s h = omega (arith, h)
 few_tokens text at (t ∷ ts) s h = omega (arith, few_tokens text t.to ts s.4 s.3.0, s.0, s.1)
 
 -- a front of a text has the lines and columns of the text
-pub refused_front : (text front : List ℕ) (at : ℕ) (cause : Cause) (r : Refusal) → front ≡ take at text → IsRefusedAt front at cause r → IsRefusedAt text at cause r
-refused_front text front at cause r e is =
+pub tells_front : (text front : List ℕ) (at : ℕ) (cause : Cause) (r : Refusal) → front ≡ take at text → Tells front at cause r → Tells text at cause r
+tells_front text front at cause r e tells =
     let same : take at front ≡ take at text = ap (take at) e ∙ take-take at at text (omega (arith)) in
     record {
-      cause_is = is.cause_is;
-      line = is.line ∙ ap (λ before. 1 + count_by (λ c. c == line_feed) (chars before)) same;
-      column = is.column ∙ ap (λ before. 1 + suffix_len (λ c. not (c == line_feed)) (chars before)) same;
+      line = tells.line ∙ ap (λ before. 1 + count_by (λ c. c == line_feed) (chars before)) same;
+      column = tells.column ∙ ap (λ before. 1 + suffix_len (λ c. not (c == line_feed)) (chars before)) same;
+      cause_is = tells.cause_is;
     }
 
 -- what isn't refused is read

@@ -10,10 +10,10 @@ use Rattle.qs_lex.specs.declared.token.Token.{Token}
 use Rattle.qs_lex.specs.declared.refusal.Cause.{Cause}
 use Rattle.qs_lex.specs.declared.refusal.Cause.TheVariants.{NotUtf8, TooDeep, Syntax, TooManySystems, TooManyArcs, Cycle, Entries, Exits}
 use Rattle.qs_lex.specs.declared.refusal.Refusal.{Refusal}
+use Rattle.qs_lex.proofs.Refusing.{some_refusal}
 use Rattle.qs_lex.specs.Tokens.{AreTokensOf}
-use Rattle.qs_lex.specs.Places.{line_of, column_of}
 use Rattle.qs_lex.specs.Grammar.{part, IsWhole}
-use Rattle.qs_lex.specs.Expecting.{Stops}
+use Rattle.qs_lex.specs.working.Expecting.{Stops}
 use Rattle.qs_lex.proofs.Totality.{a_reading}
 use Rattle.qs_lex.proofs.Deciding.{Below, whole_or_stops}
 use Rattle.qs_lex.proofs.OpenParentheses.{first_too_deep}
@@ -207,5 +207,5 @@ of_bytes text = by (is_utf8 text) refl
 pub each_text : (text : List ℕ) → ((names : List (List ℕ)) × (grammars : List Grammar) × (graph : QGraph) × IsDeckOf text names grammars graph) ⊎ ((r : Refusal) × IsRefusalOf text r)
 each_text text =
     ⊎_elim (λ d. inl d)
-    (λ f. inr (record { line = line_of text f.0; column = column_of text f.0; cause = f.1 }, record { place = f.0; fault = f.2; line = refl; column = refl }))
+    (λ f. inr (some_refusal IsFault text f.0 f.1 f.2))
     (of_bytes text)

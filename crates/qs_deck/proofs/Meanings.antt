@@ -9,13 +9,18 @@ use Rattle.qs_tree.proofs.Members.{in_append_right, in_map, from_map, in_at}
 use Rattle.qs_lex.specs.declared.refusal.Cause.{Cause}
 use Rattle.qs_lex.specs.declared.refusal.Cause.TheVariants.{TooManySystems}
 use Rattle.qs_lex.specs.declared.refusal.Refusal.{Refusal}
+use Rattle.qs_lex.specs.declared.refusal.LexEnd.{LexEnd}
+use Rattle.qs_lex.specs.declared.refusal.LexEnd.TheVariants as lex_end
 use Rattle.qs_lex.specs.Refusals as lexing
+use Rattle.qs_lex.proofs.Refusing.{refused}
 use Rattle.qs_pattern.specs.Conditions.{Condition}
 use Rattle.qs_pattern.specs.Named.{IsNamedIfGiven}
 use Rattle.qs_pattern.specs.Rules.{Rule}
 use Rattle.qs_ruletext.specs.WrittenRules.{WrittenRule}
 use Rattle.qs_ruletext.specs.Rules.{IsWellRead, IsWellReadIfGiven}
 use Rattle.qs_check.specs.Checking.{CanBeChecked}
+use Rattle.qs_check.specs.declared.checking.CheckEnd.{CheckEnd}
+use Rattle.qs_check.specs.declared.checking.CheckEnd.TheVariants as check_end
 use Rattle.qs_check.specs.declared.checking.CheckEnd.TheVariants.{Refused}
 use Rattle.qs_graphtext.specs.WrittenChains.{WrittenChain}
 use Rattle.qs_graphtext.specs.GraphOfChains.{IsWhole, AreRefused, places_in, numbers_in, different, dense, graph_of}
@@ -34,15 +39,11 @@ use Rattle.qs_deck.specs.Checks.{IsChecked, IsCheckFault, too_many_systems, rule
 use Rattle.qs_deck.specs.Refusals.{IsGraphFault, too_many_arcs, cycle, entries, exits, IsFault, tokens, check, graph, IsRefusalOf, EndsFor}
 use Rattle.qs_deck.specs.declared.deck.DeckEnd.{DeckEnd}
 use Rattle.qs_deck.specs.declared.deck.DeckEnd.TheVariants as deck_end
-use Rattle.qs_deck.specs.Answers.{IsRefusedAt, EndsWithGraph}
+use Rattle.qs_deck.specs.Answers.{end_of_tokens, end_of_check, end_of_chains, IsEndOf}
 use Rattle.qs_deck.specs.Checked.{IsFirstFault}
 use Rattle.qs_deck.proofs.CheckSteps.{HasFewRules}
 use Rattle.qs_deck.proofs.Borders.{spans, byte_border, few_tokens}
 use Rattle.qs_deck.proofs.WhatIsRead.{systems_can, systems_few, systems_later, rule_byte, word_byte, systems_named}
-
--- a refusal at the place of a fault
-pub refused : (text : List ℕ) (at : ℕ) (cause : Cause) (r : Refusal) → IsFault text at cause → IsRefusedAt text at cause r → IsRefusalOf text r
-refused text at cause r fault is = record { place = at; fault = subst (IsFault text at) (sym is.cause_is) fault; line = is.line; column = is.column }
 
 -- a text that has no refusal is read, but for want of memory
 pub only_memory : {T : Type 0} (text : List ℕ) (r : Result T DeckEnd) → IfErr r (EndsFor text) → ((x : Refusal) → IsRefusalOf text x → ⊥) → IfErr r (λ end. end ≡ deck_end.Memory)
@@ -55,14 +56,10 @@ pub never_ok : {T E : Type 0} (P : T → Type 0) (r : Result T E) → IfOk r P �
 never_ok P (Ok x) h none = absurd (none x h)
 never_ok P (Err e) h none = refl
 
--- the same refusal, of a place and a cause that were read
-pub refused_as : (text : List ℕ) (at place : ℕ) (cause because : Cause) (r : Refusal) → at ≡ place → cause ≡ because → IsRefusedAt text at cause r → IsRefusedAt text place because r
-refused_as text at place cause because r e f is = subst (λ p. IsRefusedAt text p because r) e (subst (λ b. IsRefusedAt text at b r) f is)
-
--- a refusal at the first fault of its tokens
-pub lexed : (bytes text : List ℕ) (r : Refusal) → text ≡ bytes → IsUtf8 bytes → lexing.IsRefusalOf text r → IsRefusalOf bytes r
-lexed bytes text r e u is =
-    subst (λ b. IsUtf8 b → IsRefusalOf b r) e (λ v. record { place = is.place; fault = tokens v is.fault; line = is.line; column = is.column }) u
+-- a text that has no tokens is refused for their first fault
+pub tokens_end : (text : List ℕ) → IsUtf8 text → (end : LexEnd) → lexing.EndsFor text end → EndsFor text (end_of_tokens end)
+tokens_end text utf8 (lex_end.Refused r) is = refused (tokens utf8 is.fault) is.tells
+tokens_end text utf8 lex_end.Memory is = tt
 
 -- what holds of each of a list holds of a member
 pub all_member : {X : Type 0} (P : X → Type 0) (xs : List X) (x : X) → All P xs → x ∈ xs → P x
@@ -106,11 +103,9 @@ module _ (text : List ℕ) (names : List (List ℕ)) (deck : WrittenDeck) (w : I
   check_fault cause at (inl x) = subst (IsCheckFault deck at) (sym x.2) (subst (λ b. IsCheckFault deck b TooManySystems) (sym x.3) (too_many_systems x.0 x.1))
   check_fault cause at (inr x) = rule_not_accepted x.1.front x.1.behind x.1.raw x.0 x.1.are x.1.accepted x.1.ends
 
-  pub check_border : (cause : Cause) (at : ℕ) → IsFirstFault deck.systems (Refused cause at) → IsCharBoundary text at
-  check_border cause at f = border at (check_byte cause at f)
-
-  pub check_refused : (cause : Cause) (at : ℕ) (r : Refusal) → IsFirstFault deck.systems (Refused cause at) → IsRefusedAt text at cause r → IsRefusalOf text r
-  check_refused cause at r f is = refused text at cause r (check names deck w (check_fault cause at f)) is
+  pub check_end_of : (end : CheckEnd) → IsFirstFault deck.systems end → IsEndOf text (end_of_check end)
+  check_end_of (check_end.Refused cause at) f = (check names deck w (check_fault cause at f), border at (check_byte cause at f))
+  check_end_of check_end.Memory f = tt
 
   -- the graph
   pub chains_some : 0 < length deck.chains
@@ -125,23 +120,13 @@ module _ (text : List ℕ) (names : List (List ℕ)) (deck : WrittenDeck) (w : I
   word_of_graph : IsByteOf w.tokens deck.graph_at
   word_of_graph = byte_behind deck.graph_at (w.reads.first, inl refl, sym w.reads.graph_at)
 
-  told : {a b : ℕ} {c d : Cause} → ◌≡◌ {A = Option (ℕ × Cause)} (Some (a, c)) (Some (b, d)) → IsByteOf w.tokens b × IsGraphFault deck b d → IsByteOf w.tokens a × IsGraphFault deck a c
-  told {a} {b} {c} {d} e x = subst (λ (q : ℕ × Cause). IsByteOf w.tokens q.0 × IsGraphFault deck q.0 q.1) (sym (ap (λ o. unwrap_or o (a, c)) e)) x
-
-  graph_answer : (end : ChainEnd) (at : ℕ) (cause : Cause) → EndsWithGraph deck.graph_at end (Some (at, cause)) → AreRefused deck.chains end → IsByteOf w.tokens at × IsGraphFault deck at cause
-  graph_answer (chain_end.TooManyArcs a) at cause e h =
-      told e (byte_behind a (byte_of_graph w.reads.graph a (in_at (places_in deck.chains) 65536 a h.1)), too_many_arcs h)
-  graph_answer chain_end.Cycle at cause e h = told e (word_of_graph, cycle h)
-  graph_answer chain_end.Entries at cause e h = told e (word_of_graph, entries h)
-  graph_answer chain_end.Exits at cause e h = told e (word_of_graph, exits h)
-  graph_answer chain_end.Memory at cause e h = absurd cc
-
-  pub graph_border : (end : ChainEnd) (at : ℕ) (cause : Cause) → EndsWithGraph deck.graph_at end (Some (at, cause)) → AreRefused deck.chains end → IsCharBoundary text at
-  graph_border end at cause e h = border at (graph_answer end at cause e h).0
-
-  pub graph_refused : IsChecked deck → (end : ChainEnd) (at : ℕ) (cause : Cause) (r : Refusal) → EndsWithGraph deck.graph_at end (Some (at, cause)) → AreRefused deck.chains end → IsRefusedAt text at cause r
-      → IsRefusalOf text r
-  graph_refused checked end at cause r e h is = refused text at cause r (graph names deck w checked (graph_answer end at cause e h).1) is
+  pub graph_end_of : IsChecked deck → (end : ChainEnd) → AreRefused deck.chains end → IsEndOf text (end_of_chains deck.graph_at end)
+  graph_end_of checked (chain_end.TooManyArcs a) h =
+      (graph names deck w checked (too_many_arcs h), border a (byte_behind a (byte_of_graph w.reads.graph a (in_at (places_in deck.chains) 65536 a h.1))))
+  graph_end_of checked chain_end.Cycle h = (graph names deck w checked (cycle h), border deck.graph_at word_of_graph)
+  graph_end_of checked chain_end.Entries h = (graph names deck w checked (entries h), border deck.graph_at word_of_graph)
+  graph_end_of checked chain_end.Exits h = (graph names deck w checked (exits h), border deck.graph_at word_of_graph)
+  graph_end_of checked chain_end.Memory h = tt
 
   -- the names
   meaning_named : (system : WrittenSystem) → system ∈ deck.systems → IsGrammarNamed (length names) (meaning_of system)

@@ -7,9 +7,9 @@ use Rattle.std.proofs.lemmas.Option.{slice_get_within}
 use Rattle.qs_lex.specs.declared.token.Token.{Token}
 use Rattle.qs_lex.specs.declared.refusal.Cause.{Cause}
 use Rattle.qs_lex.specs.declared.refusal.Refusal.{Refusal}
+use Rattle.qs_lex.proofs.Refusing as refusing
 use Rattle.qs_lex.specs.Tokens.{AreTokensOf}
 use Rattle.qs_lex.specs.Nesting.{IsTooDeep}
-use Rattle.qs_lex.specs.Places.{line_of, column_of}
 use Rattle.qs_lex.specs.Grammar.{part, IsWhole, Begins}
 use Rattle.qs_lex.proofs.Expected.{whole_begins}
 use Rattle.qs_lex.proofs.Readings as readings
@@ -267,11 +267,7 @@ one_meaning a b =
 
 -- it has at most one refusal
 pub one_refusal : {text : List ℕ} {r s : Refusal} → IsRefusalOf text r → IsRefusalOf text s → r ≡ s
-one_refusal {text} {r} {s} a b =
-    let same = one_fault a.fault b.fault in
-    let row : r.line ≡ s.line = a.line ∙ ap (line_of text) same.0 ∙ sym b.line in
-    let column : r.column ≡ s.column = a.column ∙ ap (column_of text) same.0 ∙ sym b.column in
-    λ i. record { line = row i; column = column i; cause = same.1 i }
+one_refusal a b = refusing.one_refusal (λ p q c d f g. one_fault f g) a b
 
 -- and not both
 pub not_both : {text : List ℕ} {names : List (List ℕ)} {grammars : List Grammar} {G : QGraph} {r : Refusal} → IsDeckOf text names grammars G → IsRefusalOf text r → ⊥

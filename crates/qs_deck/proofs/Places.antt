@@ -5,14 +5,15 @@ use Rattle.std.proofs.Math.Seq.{take-append_seam}
 use Rattle.qs_lex.specs.declared.token.Token.{Token}
 use Rattle.qs_lex.specs.declared.token.Word.TheVariants.{Systeme}
 use Rattle.qs_lex.specs.Grammar.{the_word, part, Begins}
-use Rattle.qs_lex.specs.Expecting.{same_sort, NextIsNo, BeginAll, NotWithNext, Stops}
+use Rattle.qs_lex.specs.Expecting.{same_sort, NextIsNo}
+use Rattle.qs_lex.specs.working.Expecting.{BeginAll, NotWithNext, Stops}
 use Rattle.qs_lex.proofs.Expected.{whole_begins}
 use Rattle.qs_lex.proofs.Going.{leads_on, stops_here, stops_behind}
 use Rattle.qs_lex.proofs.Predictive.{whole_leads}
 use Rattle.qs_lex.proofs.Renaming.{whole_in, whole_back, begins_in, begins_back}
 use Rattle.qs_lex.proofs.Stopping.{part_stops}
-use Rattle.qs_ruletext.specs.declared.raw.TextEnd.{TextEnd}
-use Rattle.qs_ruletext.specs.declared.raw.TextEnd.TheVariants.{Syntax, Memory}
+use Rattle.qs_reader.specs.declared.text_end.TextEnd.{TextEnd}
+use Rattle.qs_reader.specs.declared.text_end.TextEnd.TheVariants.{Syntax, Memory}
 use Rattle.qs_ruletext.specs.Rules.{KeepsNames, between}
 use Rattle.qs_graphtext.specs.Grammar as graphs
 use Rattle.qs_graphtext.specs.WrittenChains.{WrittenChain}

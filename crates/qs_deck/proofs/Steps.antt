@@ -6,13 +6,14 @@ use Rattle.qs_lex.specs.declared.token.Token.{Token}
 use Rattle.qs_lex.specs.declared.token.Word.TheVariants.{Systeme, Graphe, Fin, Dans, Hors, Et, Ou, Non}
 use Rattle.qs_lex.specs.Tokens.{IsLabel, AreTokensOf, IsTokenOf}
 use Rattle.qs_lex.specs.Grammar.{Sort, a_label, a_label_variable, a_tree_variable, a_forest_variable, a_node_mark, the_word, opening, closing, comma, plus, slash, equals, stop, sort_of, IsOf, Form, one, part, ◌·◌, repeated, Begins, begins_token, begins_part, begins_first, begins_this, begins_other}
-use Rattle.qs_lex.specs.Expecting.{same_sort, NextIsNo, Leads, Stops}
+use Rattle.qs_lex.specs.Expecting.{same_sort, NextIsNo}
+use Rattle.qs_lex.specs.working.Expecting.{Leads, Stops}
 use Rattle.qs_lex.proofs.Going.{leads_on, leads_part, leads_sequence, stops_here, stops_behind}
 use Rattle.qs_lex.proofs.Stopping.{again_stops, repeat_leads}
 use Rattle.qs_lex.proofs.Renaming.{whole_in, whole_back, begins_in, begins_back}
 use Rattle.qs_ruletext.specs.Grammar as rules
-use Rattle.qs_ruletext.specs.declared.raw.TextEnd.{TextEnd}
-use Rattle.qs_ruletext.specs.declared.raw.TextEnd.TheVariants.{Syntax, Memory}
+use Rattle.qs_reader.specs.declared.text_end.TextEnd.{TextEnd}
+use Rattle.qs_reader.specs.declared.text_end.TextEnd.TheVariants.{Syntax, Memory}
 use Rattle.qs_ruletext.specs.Rules.{between, CannotGoOn, EndsFrom, NoRuleAt}
 use Rattle.qs_ruletext.specs.Cursors.{IsNext, begins_tree}
 use Rattle.qs_ruletext.proofs.Between.{drop_twice, next_at, between_drop, some_between}

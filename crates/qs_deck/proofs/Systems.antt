@@ -4,12 +4,13 @@ use Rattle.std.specs.Prelude.{◌↔◌}
 use Rattle.qs_lex.specs.declared.token.Token.{Token}
 use Rattle.qs_lex.specs.declared.token.Word.TheVariants.{Systeme}
 use Rattle.qs_lex.specs.Grammar.{the_word, Form, part, ◌·◌, repeated, IsWhole, whole_token, whole_part, whole_sequence}
-use Rattle.qs_lex.specs.Expecting.{same_sort, starts, NextIsNo, BeginAll, AllWhole, Leads}
+use Rattle.qs_lex.specs.Expecting.{same_sort, NextIsNo}
+use Rattle.qs_lex.specs.working.Expecting.{starts, BeginAll, AllWhole, Leads}
 use Rattle.qs_lex.proofs.Going.{leads_on, leads_part, leads_sequence, leads_done, leads_again, stops_behind}
 use Rattle.qs_lex.proofs.Predictive.{whole_leads}
 use Rattle.qs_lex.proofs.Renaming.{whole_in}
-use Rattle.qs_ruletext.specs.declared.raw.TextEnd.{TextEnd}
-use Rattle.qs_ruletext.specs.declared.raw.TextEnd.TheVariants.{Syntax, Memory}
+use Rattle.qs_reader.specs.declared.text_end.TextEnd.{TextEnd}
+use Rattle.qs_reader.specs.declared.text_end.TextEnd.TheVariants.{Syntax, Memory}
 use Rattle.qs_ruletext.specs.Grammar as rules
 use Rattle.qs_ruletext.specs.Reading.{IsLabelOf}
 use Rattle.qs_ruletext.specs.Rules.{KeepsNames, ReadsRules, NoRuleAt, between}

@@ -4,7 +4,8 @@ use Rattle.std.specs.Prelude.{IfErr, IsErrAnd}
 use Rattle.std.proofs.lemmas.Result.{err_from_is_err_and}
 use Rattle.qs_lex.specs.declared.token.Token.{Token}
 use Rattle.qs_lex.specs.Grammar.{Sort, Form, one, renamed}
-use Rattle.qs_lex.specs.Expecting.{starts, Apart, NextIsNo, may_end, Leads}
+use Rattle.qs_lex.specs.Expecting.{NextIsNo}
+use Rattle.qs_lex.specs.working.Expecting.{starts, Apart, may_end, Leads}
 use Rattle.qs_lex.proofs.Expected.{IsTable}
 use Rattle.qs_lex.proofs.Going.{leads_token}
 use Rattle.qs_lex.proofs.Predictive.{IsPredicted}

@@ -1,22 +1,36 @@
--- No public contract cites this: what private functions promise of a refusal.
-use Rattle.std.specs.Prelude.{◌≡◌, ℕ, List, Option, Some, None}
-use Rattle.qs_lex.specs.declared.refusal.Cause.{Cause}
+-- No public contract cites this: what private functions promise of a text that means no deck.
+use Rattle.std.specs.Prelude.{ℕ, List, IsCharBoundary}
 use Rattle.qs_lex.specs.declared.refusal.Cause.TheVariants.{TooManyArcs, Cycle, Entries, Exits}
-use Rattle.qs_lex.specs.declared.refusal.Refusal.{Refusal}
-use Rattle.qs_lex.specs.Places.{line_of, column_of}
+use Rattle.qs_lex.specs.declared.refusal.LexEnd.{LexEnd}
+use Rattle.qs_lex.specs.declared.refusal.LexEnd.TheVariants as lex_end
+use Rattle.qs_check.specs.declared.checking.CheckEnd.{CheckEnd}
+use Rattle.qs_check.specs.declared.checking.CheckEnd.TheVariants as check_end
 use Rattle.qs_graphtext.specs.declared.chain_end.ChainEnd.{ChainEnd}
 use Rattle.qs_graphtext.specs.declared.chain_end.ChainEnd.TheVariants as chain_end
+use Rattle.qs_deck.specs.declared.deck.DeckEnd.{DeckEnd}
+use Rattle.qs_deck.specs.declared.deck.DeckEnd.TheVariants as deck_end
+use Rattle.qs_deck.specs.declared.fault.FaultEnd.{FaultEnd}
+use Rattle.qs_deck.specs.declared.fault.FaultEnd.TheVariants.{Fault, Memory}
+use Rattle.qs_deck.specs.Refusals.{IsFault}
 
--- the refusal tells the place and the cause
-pub record IsRefusedAt (text : List ℕ) (place : ℕ) (cause : Cause) (refusal : Refusal) : Type 0 where
-  pub cause_is : refusal.cause ≡ cause
-  pub line : refusal.line ≡ line_of text place
-  pub column : refusal.column ≡ column_of text place
+-- what is handed on where there are no tokens, and where a check or a graph has a fault. The place of a graph that isn't valid
+-- is its word -GRAPHE-, which begins at the given byte.
+abbrev pub end_of_tokens : LexEnd → DeckEnd
+end_of_tokens (lex_end.Refused refusal) = deck_end.Refused refusal
+end_of_tokens lex_end.Memory = deck_end.Memory
 
--- the place and the cause of the end, where it tells one
-abbrev pub EndsWithGraph : ℕ → ChainEnd → Option (ℕ × Cause) → Type 0
-EndsWithGraph graph_at (chain_end.TooManyArcs at) fault = fault ≡ Some (at, TooManyArcs)
-EndsWithGraph graph_at chain_end.Cycle fault = fault ≡ Some (graph_at, Cycle)
-EndsWithGraph graph_at chain_end.Entries fault = fault ≡ Some (graph_at, Entries)
-EndsWithGraph graph_at chain_end.Exits fault = fault ≡ Some (graph_at, Exits)
-EndsWithGraph graph_at chain_end.Memory fault = fault ≡ None
+abbrev pub end_of_check : CheckEnd → FaultEnd
+end_of_check (check_end.Refused cause at) = Fault at cause
+end_of_check check_end.Memory = Memory
+
+abbrev pub end_of_chains : ℕ → ChainEnd → FaultEnd
+end_of_chains graph_at (chain_end.TooManyArcs at) = Fault at TooManyArcs
+end_of_chains graph_at chain_end.Cycle = Fault graph_at Cycle
+end_of_chains graph_at chain_end.Entries = Fault graph_at Entries
+end_of_chains graph_at chain_end.Exits = Fault graph_at Exits
+end_of_chains graph_at chain_end.Memory = Memory
+
+-- why a text means no deck: this is its first fault, and its place is between characters; or there was no memory
+abbrev pub IsEndOf : List ℕ → FaultEnd → Type 0
+IsEndOf text (Fault byte cause) = IsFault text byte cause × IsCharBoundary text byte
+IsEndOf text Memory = Unit {0}

@@ -10,7 +10,8 @@ use Rattle.qs_pattern.specs.declared.pattern.Head.TheVariants as head
 use Rattle.qs_pattern.specs.Patterns.{Patterns, no_pattern, node_first, tree_var_first, forest_var_first}
 use Rattle.qs_pattern.specs.Conditions.{Condition, Conditions, compared, negated, combined, no_condition, condition_first}
 use Rattle.qs_pattern.specs.Rules.{Rule}
-use Rattle.qs_pattern.specs.Named.{IsHeadNamed, ArePatternsNamed, IsConditionNamed, AreConditionsNamed, IsNamedIfGiven}
+use Rattle.qs_pattern.specs.Named.{IsHeadNamed, ArePatternsNamed, IsConditionNamed, IsNamedIfGiven}
+use Rattle.qs_pattern.specs.working.Named.{AreConditionsNamed}
 use Rattle.qs_graph.specs.Graphs.{Arc}
 use Rattle.qs_graphtext.specs.Texts.{AreArcsNamed}
 use Rattle.qs_deck.specs.declared.system.System.{System}

@@ -5,11 +5,12 @@ use Rattle.qs_lex.specs.declared.token.Token.{Token}
 use Rattle.qs_lex.specs.declared.token.Word.TheVariants.{Systeme}
 use Rattle.qs_lex.specs.Tokens.{IsLabel}
 use Rattle.qs_lex.specs.Grammar.{Sort, the_word, stop, IsOf, Form, part, repeated}
-use Rattle.qs_lex.specs.Expecting.{same_sort, Leads, Stops}
+use Rattle.qs_lex.specs.Expecting.{same_sort}
+use Rattle.qs_lex.specs.working.Expecting.{Leads, Stops}
 use Rattle.qs_ruletext.specs.declared.cursor.Halt.{Halt}
 use Rattle.qs_ruletext.specs.declared.cursor.Halt.TheVariants as halt
-use Rattle.qs_ruletext.specs.declared.raw.TextEnd.{TextEnd}
-use Rattle.qs_ruletext.specs.declared.raw.TextEnd.TheVariants as text_end
+use Rattle.qs_reader.specs.declared.text_end.TextEnd.{TextEnd}
+use Rattle.qs_reader.specs.declared.text_end.TextEnd.TheVariants as text_end
 use Rattle.qs_ruletext.specs.Rules.{KeepsNames, NoRuleAt, between}
 use Rattle.qs_ruletext.specs.Names.{NamesGrow}
 use Rattle.qs_ruletext.specs.Cursors as rule_readers

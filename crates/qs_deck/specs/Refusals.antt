@@ -1,4 +1,4 @@
--- The first fault of a text that isn't accepted, and what is told of it. The phases stand in an order: bytes, tokens, nesting,
+-- The first fault of a text that isn't accepted. The phases stand in an order: bytes, tokens, nesting,
 -- syntax, check, graph. The first phase that finds a fault answers, with its first fault.
 use Rattle.std.specs.Prelude.{◌≡◌, ℕ, ◌<◌, List, length, Option, Some, None, slice_get}
 use Rattle.std.specs.Str.{IsUtf8}
@@ -9,8 +9,7 @@ use Rattle.qs_lex.specs.declared.refusal.Cause.TheVariants.{NotUtf8, TooDeep, Sy
 use Rattle.qs_lex.specs.declared.refusal.Refusal.{Refusal}
 use Rattle.qs_lex.specs.Tokens.{AreTokensOf}
 use Rattle.qs_lex.specs.Nesting.{IsTooDeep}
-use Rattle.qs_lex.specs.Refusals.{IsFirstFault}
-use Rattle.qs_lex.specs.Places.{line_of, column_of}
+use Rattle.qs_lex.specs.Refusals.{IsFirstFault, IsRefusedFor}
 use Rattle.qs_graphtext.specs.GraphOfChains.{AreRefused}
 use Rattle.qs_graphtext.specs.declared.chain_end.ChainEnd.TheVariants as chain_end
 use Rattle.qs_deck.specs.WrittenDecks.{WrittenDeck}
@@ -53,12 +52,9 @@ pub data IsFault (text : List ℕ) : ℕ → Cause → Type 0 where
   graph : (names : List (List ℕ)) (deck : WrittenDeck) {at : ℕ} {cause : Cause}
       → IsWritten text names deck → IsChecked deck → IsGraphFault deck at cause → IsFault text at cause
 
--- The text is refused so: the line, the column and the cause of its first fault.
-pub record IsRefusalOf (text : List ℕ) (refusal : Refusal) : Type 0 where
-  pub place : ℕ
-  pub fault : IsFault text place refusal.cause
-  pub line : refusal.line ≡ line_of text place
-  pub column : refusal.column ≡ column_of text place
+-- The text is refused for its first fault.
+abbrev pub IsRefusalOf : List ℕ → Refusal → Type 0
+IsRefusalOf text refusal = IsRefusedFor IsFault text refusal
 
 -- Why no deck was read: the text is refused so, or there was no memory, which may come for any text.
 abbrev pub EndsFor : List ℕ → DeckEnd → Type 0

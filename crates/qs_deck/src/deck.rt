@@ -6,7 +6,7 @@ ghost use Rattle.qs_deck.specs.Named.{AreSystemsNamed, AreSystemsNamed-prop, Are
 
 use crate::system::System;
 use qs_graph::Graph;
-use qs_lex::Refusal;
+use qs_lex::{LexEnd, Refusal};
 use qs_tree::Names;
 use thiserror::Error;
 
@@ -29,4 +29,18 @@ pub enum DeckEnd {
     /// There was no memory. It may come for any text, accepted or not.
     #[error("there is no memory")]
     Memory,
+}
+
+impl From<LexEnd> for DeckEnd {
+    ghost use Rattle.std.specs.Prelude.{◌≡◌};
+    ghost use Rattle.qs_deck.specs.Answers.{end_of_tokens};
+
+    ghost from_gives = { λ x e. e ≡ end_of_tokens x };
+
+    fn from(end: LexEnd) -> DeckEnd {
+        match end {
+            LexEnd::Refused(refusal) => DeckEnd::Refused(refusal),
+            LexEnd::Memory => DeckEnd::Memory,
+        }
+    }
 }

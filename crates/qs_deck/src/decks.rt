@@ -4,51 +4,35 @@ ghost use Rattle.std.specs.Prelude.{◌≡◌, ◌≤◌, ◌^◌, ◌<◌, ℕ,
 ghost use Rattle.std.specs.Str.{IsUtf8, IsValidUpTo};
 ghost use Rattle.qs_lex.specs.Tokens.{AreTokensOf, AreSpansFrom};
 ghost use Rattle.qs_lex.specs.Nesting.{IsTooDeep};
-ghost use Rattle.qs_lex.specs.Places.{line_of, column_of};
-ghost use Rattle.qs_graphtext.specs.GraphOfChains.{AreRefused};
+ghost use Rattle.qs_lex.specs.Refusals.{Tells};
 ghost use Rattle.qs_graph.specs.Graphs.{QGraph};
 ghost use Rattle.qs_lex.specs.declared.refusal.Refusal.{Refusal};
 ghost use Rattle.qs_deck.specs.Decks.{Grammar, grammar_of, IsDeckOf, IsWritten};
-ghost use Rattle.qs_deck.specs.Checks.{IsChecked};
-ghost use Rattle.qs_deck.specs.Refusals.{byte_of, IsGraphFault, IsRefusalOf, EndsFor};
-ghost use Rattle.qs_deck.specs.Answers.{IsRefusedAt, EndsWithGraph};
+ghost use Rattle.qs_deck.specs.Refusals.{byte_of, IsRefusalOf, EndsFor};
+ghost use Rattle.qs_deck.specs.Answers.{IsEndOf, end_of_chains};
 ghost use Rattle.qs_deck.specs.Texts.{deck_text};
 
 use crate::checking::checked;
 use crate::deck::{Deck, DeckEnd};
+use crate::fault::FaultEnd;
 use crate::laws::{one_answer, what_is_written_is_read};
 use crate::reading::read_written;
 use crate::written::RawDeck;
-use qs_check::CheckEnd;
-use qs_graphtext::{Chain, ChainEnd, graph_of};
-use qs_lex::{Cause, LexEnd, Refusal, Token, place, tokens, too_deep};
+use qs_graphtext::{ChainEnd, graph_of};
+use qs_lex::{Cause, Refusal, Token, tokens, too_deep};
 use qs_ruletext::TextEnd;
 use qs_tree::Names;
 use std::alloc::Global;
 use std::str;
 
-/// The refusal of a text at this byte for this cause.
-fn refusal(text: &str, byte: u32, cause: Cause) -> Refusal
-    requires border { IsCharBoundary text.now byte }
-    requires short { length text.now ≤ 4194304 }
-    ensures { IsRefusedAt text.now byte cause result }
-{
-    let (line, column) = place(text, byte);
-    Refusal {
-        line,
-        column,
-        cause,
-    }
-}
-
 /// The refusal of bytes that aren't UTF-8. The longest front that is has so many bytes.
 fn not_utf8(bytes: &[u8], valid: usize) -> Refusal
     requires valid { IsValidUpTo bytes.now valid }
     requires short { length bytes.now ≤ 4194304 }
-    ensures { IsRefusedAt bytes.now valid Cause.NotUtf8 result }
+    ensures { Tells bytes.now valid Cause.NotUtf8 result }
 {
     let text = str::from_utf8(&bytes[..valid]).unwrap();
-    refusal(text, valid as u32, Cause::NotUtf8)
+    Refusal::at(text, valid as u32, Cause::NotUtf8)
 }
 
 /// The byte at which the token with this index begins; the length of the text where there is no such token.
@@ -64,73 +48,109 @@ fn byte_of(text: &str, tokens: &[Token], index: usize) -> u32
     }
 }
 
-/// Why the chains make no graph, of which the word `-GRAPHE-` stands at this byte: the byte of the place, and the cause. None
-/// where memory was wanting.
-fn graph_fault(graph_at: u32, end: ChainEnd) -> Option<(u32, Cause)>
-    ensures { EndsWithGraph graph_at end result }
+/// Nothing, where at most 1,000 parentheses are open at a time; else the fault at the first that is one too many.
+fn shallow(text: &str, tokens: &[Token]) -> Result<(), FaultEnd>
+    requires of_text { AreTokensOf text.now tokens.now }
+    requires spans { AreSpansFrom text.now 0 tokens.now }
+    requires short { length text.now ≤ 4194304 }
+    requires utf8 { IsUtf8 text.now }
+    ensures shallow { IfOk result (λ _. (index : ℕ) → IsTooDeep tokens.now index → ⊥) }
+    ensures end { IfErr result (IsEndOf text.now) }
 {
-    match end {
-        ChainEnd::TooManyArcs { at } => Some((at, Cause::TooManyArcs)),
-        ChainEnd::Cycle => Some((graph_at, Cause::Cycle)),
-        ChainEnd::Entries => Some((graph_at, Cause::Entries)),
-        ChainEnd::Exits => Some((graph_at, Cause::Exits)),
-        ChainEnd::Memory => None,
+    match too_deep(tokens) {
+        Some(index) => Err(FaultEnd::Fault {
+            byte: byte_of(text, tokens, index),
+            cause: Cause::TooDeep,
+        }),
+        None => Ok(()),
     }
 }
 
-/// The deck that a written deck of the text means, or its first fault.
-fn deck_of(alloc: Global, text: &str, names: Names, written: RawDeck) -> Result<Deck, DeckEnd>
-    requires written { IsWritten text.now names written }
+/// The written deck that these tokens of the text are, and the names of its labels.
+fn written(alloc: Global, text: &str, tokens: &[Token]) -> Result<(Names, RawDeck), FaultEnd>
+    requires of_text { AreTokensOf text.now tokens.now }
+    requires spans { AreSpansFrom text.now 0 tokens.now }
     requires short { length text.now ≤ 4194304 }
-    ensures deck { IfOk result (λ deck. IsDeckOf text.now deck.names (map grammar_of deck.systems.items) deck.graph) }
-    ensures end { IfErr result (EndsFor text.now) }
+    requires utf8 { IsUtf8 text.now }
+    requires shallow { (index : ℕ) → IsTooDeep tokens.now index → ⊥ }
+    ensures written { IfOk result (λ found. IsWritten text.now found.0 found.1) }
+    ensures end { IfErr result (IsEndOf text.now) }
 {
+    let mut names = Names::new(alloc);
+    match read_written(alloc, text, tokens, &mut names) {
+        Ok(deck) => Ok((names, deck)),
+        Err(TextEnd::Syntax(index)) => Err(FaultEnd::Fault {
+            byte: byte_of(text, tokens, index),
+            cause: Cause::Syntax,
+        }),
+        Err(TextEnd::Memory) => Err(FaultEnd::Memory),
+    }
+}
+
+/// Why the chains make no graph, of which the word `-GRAPHE-` stands at this byte.
+fn graph_end(graph_at: u32, end: ChainEnd) -> FaultEnd
+    ensures { result ≡ end_of_chains graph_at end }
+{
+    let (byte, cause) = match end {
+        ChainEnd::TooManyArcs { at } => (at, Cause::TooManyArcs),
+        ChainEnd::Cycle => (graph_at, Cause::Cycle),
+        ChainEnd::Entries => (graph_at, Cause::Entries),
+        ChainEnd::Exits => (graph_at, Cause::Exits),
+        ChainEnd::Memory => return FaultEnd::Memory,
+    };
+    FaultEnd::Fault { byte, cause }
+}
+
+/// The deck that a text with these tokens means, or its first fault.
+fn deck_of_tokens(alloc: Global, text: &str, tokens: &[Token]) -> Result<Deck, FaultEnd>
+    requires of_text { AreTokensOf text.now tokens.now }
+    requires spans { AreSpansFrom text.now 0 tokens.now }
+    requires short { length text.now ≤ 4194304 }
+    requires utf8 { IsUtf8 text.now }
+    ensures deck { IfOk result (λ deck. IsDeckOf text.now deck.names (map grammar_of deck.systems.items) deck.graph) }
+    ensures end { IfErr result (IsEndOf text.now) }
+{
+    shallow(text, tokens)?;
+    let (names, deck) = written(alloc, text, tokens)?;
     let RawDeck {
         systems,
         graph_at,
         chains,
-    } = written;
-    let systems = match checked(alloc, systems) {
-        Ok(systems) => systems,
-        Err(CheckEnd::Refused { cause, at }) => {
-            return Err(DeckEnd::Refused(refusal(text, at, cause)));
-        }
-        Err(CheckEnd::Memory) => return Err(DeckEnd::Memory),
-    };
+    } = deck;
+    let systems = checked(alloc, systems)?;
     match graph_of(alloc, chains) {
         Ok(graph) => Ok(Deck {
             names,
             systems,
             graph,
         }),
-        Err(end) => match graph_fault(graph_at, end) {
-            Some((at, cause)) => Err(DeckEnd::Refused(refusal(text, at, cause))),
-            None => Err(DeckEnd::Memory),
-        },
+        Err(end) => Err(graph_end(graph_at, end)),
     }
 }
 
-/// The deck that a text with these tokens means, or its first fault.
-fn deck_of_tokens(alloc: Global, text: &str, tokens: &[Token]) -> Result<Deck, DeckEnd>
-    requires of_text { AreTokensOf text.now tokens.now }
-    requires spans { AreSpansFrom text.now 0 tokens.now }
+/// What is told of a text that means no deck.
+fn told(text: &str, end: FaultEnd) -> DeckEnd
+    requires end { IsEndOf text.now end }
+    requires short { length text.now ≤ 4194304 }
+    ensures { EndsFor text.now result }
+{
+    match end {
+        FaultEnd::Fault { byte, cause } => DeckEnd::Refused(Refusal::at(text, byte, cause)),
+        FaultEnd::Memory => DeckEnd::Memory,
+    }
+}
+
+/// The deck that a text in UTF-8 means, or its first fault.
+fn deck_of_text(alloc: Global, text: &str) -> Result<Deck, DeckEnd>
     requires short { length text.now ≤ 4194304 }
     requires utf8 { IsUtf8 text.now }
     ensures deck { IfOk result (λ deck. IsDeckOf text.now deck.names (map grammar_of deck.systems.items) deck.graph) }
     ensures end { IfErr result (EndsFor text.now) }
 {
-    if let Some(index) = too_deep(tokens) {
-        let byte = byte_of(text, tokens, index);
-        return Err(DeckEnd::Refused(refusal(text, byte, Cause::TooDeep)));
-    }
-    let mut names = Names::new(alloc);
-    match read_written(alloc, text, tokens, &mut names) {
-        Ok(written) => deck_of(alloc, text, names, written),
-        Err(TextEnd::Syntax(index)) => {
-            let byte = byte_of(text, tokens, index);
-            Err(DeckEnd::Refused(refusal(text, byte, Cause::Syntax)))
-        }
-        Err(TextEnd::Memory) => Err(DeckEnd::Memory),
+    let tokens = tokens(alloc, text)?;
+    match deck_of_tokens(alloc, text, &tokens) {
+        Ok(deck) => Ok(deck),
+        Err(end) => Err(told(text, end)),
     }
 }
 
@@ -140,14 +160,9 @@ fn deck_of_bytes(alloc: Global, bytes: &[u8]) -> Result<Deck, DeckEnd>
     ensures deck { IfOk result (λ deck. IsDeckOf bytes.now deck.names (map grammar_of deck.systems.items) deck.graph) }
     ensures end { IfErr result (EndsFor bytes.now) }
 {
-    let text = match str::from_utf8(bytes) {
-        Ok(text) => text,
-        Err(error) => return Err(DeckEnd::Refused(not_utf8(bytes, error.valid_up_to()))),
-    };
-    match tokens(alloc, text) {
-        Ok(tokens) => deck_of_tokens(alloc, text, &tokens),
-        Err(LexEnd::Refused(refusal)) => Err(DeckEnd::Refused(refusal)),
-        Err(LexEnd::Memory) => Err(DeckEnd::Memory),
+    match str::from_utf8(bytes) {
+        Ok(text) => deck_of_text(alloc, text),
+        Err(error) => Err(DeckEnd::Refused(not_utf8(bytes, error.valid_up_to()))),
     }
 }
 

@@ -9,6 +9,7 @@
 mod checking;
 mod deck;
 mod decks;
+mod fault;
 pub mod laws;
 mod made_decks;
 mod made_texts;

@@ -3,7 +3,7 @@ use Rattle.std.proofs.Common.{◌≡◌, ◌==◌, ℕ, suc, ◌+◌, List, [], 
 use Rattle.std.specs.Prelude.{count_by}
 use Rattle.std.proofs.lemmas.List.Sums.{sum_by-append}
 use Rattle.qs_turn.specs.History.{IsOtherPass, ContinuedByOthers}
-use Rattle.qs_turn.specs.Protocol.{one_if_same}
+use Rattle.qs_turn.specs.working.Protocol.{one_if_same}
 use Rattle.qs_turn.specs.declared.told.Told.{Ghosts}
 use Rattle.qs_turn.specs.declared.turns.Pass.{Pass}
 use Rattle.qs_turn.specs.Passes.{number_of, seen_of}

@@ -4,6 +4,6 @@ pub mod FiringDecisions
 pub mod Listing
 pub mod Building
 pub mod TreesOn
-pub mod Covered
 pub mod SameVariables
 pub mod Fired
+pub mod Merging

@@ -17,8 +17,8 @@ pub record Firing : Type 0 where
   pub path : List ℕ
   pub values : Substitution
 
--- f is a firing of the rules over these arcs: its path is a path, as long as its rule's left side; its substitution makes
--- the left side the trees on the path; and the rule's condition holds.
+-- f is a firing of the rules over these arcs: its path is a path, as long as its rule's left side; its substitution
+-- makes the left side the trees on the path; and the rule's condition holds.
 pub record Fires (R : List Rule) (arcs : List Arc) (f : Firing) : Type 0 where
   pub rule : Rule
   pub is_rule : slice_get R f.rule ≡ Some rule
@@ -29,7 +29,8 @@ pub record Fires (R : List Rule) (arcs : List Arc) (f : Firing) : Type 0 where
   pub matches : IsMatch rule.left (trees_on arcs f.path) f.values
   pub holds : HoldsIfGiven rule.condition f.values
 
--- The key of a firing: its rule, its path, and the lengths of its forest variables' values in order of first occurrence.
+-- The key of a firing: its rule, its path, and the lengths of its forest variables' values in order of first
+-- occurrence.
 abbrev pub key : Firing → List (List ℕ)
 key f = (f.rule ∷ []) ∷ f.path ∷ forest_lengths f.values ∷ []
 

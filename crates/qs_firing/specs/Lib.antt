@@ -1,3 +1,3 @@
 pub mod Firings
 pub mod Adding
-pub mod Codes
+pub mod working

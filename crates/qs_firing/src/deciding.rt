@@ -65,8 +65,8 @@ fn is_allowed(alloc: Global, rule: &Rule, subst: &Subst) -> Result<bool, AllocEr
     }
 }
 
-/// Whether the firing fires: it is one of these rules over the arcs of the view. A firing of a rule or an arc that isn't
-/// there doesn't fire. There are fewer than 4,294,967,295 rules.
+/// Whether the firing fires: it is one of these rules over the arcs of the view. A firing of a rule or an arc that
+/// isn't there doesn't fire. There are fewer than 4,294,967,295 rules.
 pub fn fires(
     alloc: Global,
     rules: &[Rule],

@@ -16,7 +16,7 @@ pub struct Firing {
 
 impl Model for Firing {
     ghost use Rattle.qs_firing.specs.Firings.{Firing as FiringOfRule};
-    ghost use Rattle.qs_firing.specs.Codes.{firing_code};
+    ghost use Rattle.qs_firing.specs.working.Codes.{firing_code};
 
     ghost Value = { FiringOfRule };
 

@@ -29,9 +29,9 @@ fn compare_lengths(a: &[(Var, Value)], b: &[(Var, Value)]) -> Ordering
         .cmp(b.iter().filter_map(length_of))
 }
 
-/// The order of the keys of any two firings: by the number of the rule, then by the path in dictionary order, then by the
-/// lengths of the lists of trees that forest variables stand for, in the order in which the substitutions have them and in
-/// dictionary order. Takes no memory.
+/// The order of the keys of any two firings: by the number of the rule, then by the path in dictionary order, then by
+/// the lengths of the lists of trees that forest variables stand for, in the order in which the substitutions have them
+/// and in dictionary order. Takes no memory.
 pub fn order(a: &Firing, b: &Firing) -> Ordering
     ensures { result ≡ order a.now b.now }
 {

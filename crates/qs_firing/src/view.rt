@@ -16,7 +16,7 @@ impl Model for View {
     ghost use Rattle.std.specs.Prelude.{List, ◌<◌, ◌^◌, length};
     ghost use Rattle.std.specs.Coded.{coded_list};
     ghost use Rattle.qs_graph.specs.Graphs.{Arc};
-    ghost use Rattle.qs_graph.specs.Codes.{arc_code};
+    ghost use Rattle.qs_graph.specs.working.Codes.{arc_code};
 
     ghost Value = { List Arc };
 
@@ -52,7 +52,8 @@ impl View {
         &self.edges[arc as usize]
     }
 
-    /// Appends copies of all these arcs. After `Memory` the list is as before.
+    /// Appends copies of all these arcs, which own the same trees: no tree is copied. After `Memory` the list is as
+    /// before.
     pub fn add(&mut self, edges: &[Edge]) -> Result<(), AllocError>
         requires { length self.old + length edges.now < 2 ^ 32 }
         ensures ok { OnOk result (self.new ≡ self.old ++ edges.now) }

@@ -6,7 +6,8 @@ use Rattle.qs_tree.specs.Trees.{Tree}
 use Rattle.qs_graph.specs.Graphs.{Arc, QGraph, IsPath, IsNode, IsEntry, IsExit, IsValid}
 use Rattle.qs_graph.specs.Chains.{chain, with_chain}
 use Rattle.qs_graph.proofs.Lines.{IsInner, targets, sources, into, out_of}
-use Rattle.qs_graph.proofs.Paths.{append_cases, append_left, append_right, first_arc, last_arc, path_above, Joined, joined_arc, joined_on, JoinedOrSame, joined_then, then_joined, not_joined}
+use Rattle.qs_tree.proofs.Members.{from_append, in_append_left, in_append_right}
+use Rattle.qs_graph.proofs.Paths.{first_arc, last_arc, path_above, Joined, joined_arc, joined_on, JoinedOrSame, joined_then, then_joined, not_joined}
 
 -- x comes before y where nodes above N lie on a chain from a to b and the others are joined by these arcs
 record Above (N : ℕ) (arcs : List Arc) (a b x y : ℕ) : Type 0 where
@@ -83,7 +84,7 @@ module _ (G : QGraph) (valid : IsValid G) (a b : ℕ) (path : List ℕ) (p : IsP
   }
 
   rises : (arc : Arc) → arc ∈ H.arcs → Above N G.arcs a b arc.from arc.to
-  rises arc i = ⊎_elim (old_rises arc) (new_rises arc) (append_cases G.arcs new arc i)
+  rises arc i = ⊎_elim (old_rises arc) (new_rises arc) (from_append G.arcs new arc i)
 
   -- a node of the graph is old or an inner node of the chain
   node_cases : (n : ℕ) → IsNode H n → IsNode G n ⊎ IsInner (N + 1) ts n
@@ -101,15 +102,15 @@ module _ (G : QGraph) (valid : IsValid G) (a b : ℕ) (path : List ℕ) (p : IsP
       there : IsEntry G n → IsEntry H n
       there e = record {
         node = (e.node.0, omega (arith, e.node));
-        none_in = λ arc i is. ⊎_elim (λ j. e.none_in arc j is) (λ j. into_old e arc j is) (append_cases G.arcs new arc i);
+        none_in = λ arc i is. ⊎_elim (λ j. e.none_in arc j is) (λ j. into_old e arc j is) (from_append G.arcs new arc i);
       }
 
       back : IsEntry H n → IsEntry G n
       back e = record {
         node = ⊎_elim (λ o. o)
-            (λ inner. let (arc, i, is) = into a ts (N + 1) b n some (inr inner) in absurd (e.none_in arc (append_right G.arcs new arc i) is))
+            (λ inner. let (arc, i, is) = into a ts (N + 1) b n some (inr inner) in absurd (e.none_in arc (in_append_right G.arcs new arc i) is))
             (node_cases n e.node);
-        none_in = λ arc i is. e.none_in arc (append_left G.arcs new arc i) is;
+        none_in = λ arc i is. e.none_in arc (in_append_left G.arcs new arc i) is;
       }
 
   pub same_exit : (n : ℕ) → IsExit G n ↔ IsExit H n
@@ -124,15 +125,15 @@ module _ (G : QGraph) (valid : IsValid G) (a b : ℕ) (path : List ℕ) (p : IsP
       there : IsExit G n → IsExit H n
       there e = record {
         node = (e.node.0, omega (arith, e.node));
-        none_out = λ arc i is. ⊎_elim (λ j. e.none_out arc j is) (λ j. out_old e arc j is) (append_cases G.arcs new arc i);
+        none_out = λ arc i is. ⊎_elim (λ j. e.none_out arc j is) (λ j. out_old e arc j is) (from_append G.arcs new arc i);
       }
 
       back : IsExit H n → IsExit G n
       back e = record {
         node = ⊎_elim (λ o. o)
-            (λ inner. let (arc, i, is) = out_of a ts (N + 1) b n some (inr inner) in absurd (e.none_out arc (append_right G.arcs new arc i) is))
+            (λ inner. let (arc, i, is) = out_of a ts (N + 1) b n some (inr inner) in absurd (e.none_out arc (in_append_right G.arcs new arc i) is))
             (node_cases n e.node);
-        none_out = λ arc i is. e.none_out arc (append_left G.arcs new arc i) is;
+        none_out = λ arc i is. e.none_out arc (in_append_left G.arcs new arc i) is;
       }
 
   old_in : (n : ℕ) → IsNode G n → IsNode H n
@@ -153,7 +154,7 @@ module _ (G : QGraph) (valid : IsValid G) (a b : ℕ) (path : List ℕ) (p : IsP
     in_range = λ arc i. ⊎_elim
         (λ j. (old_in arc.from (valid.in_range arc j).0, old_in arc.to (valid.in_range arc j).1))
         (new_in arc)
-        (append_cases G.arcs new arc i);
+        (from_append G.arcs new arc i);
     no_cycle = λ n ks q. not_above n (path_above (Above N G.arcs a b) above_on H.arcs rises n ks n q);
     entry = record { one = valid.entry.one; holds = (same_entry valid.entry.one).0 valid.entry.holds; only = λ n e. valid.entry.only n ((same_entry n).1 e) };
     exit = record { one = valid.exit.one; holds = (same_exit valid.exit.one).0 valid.exit.holds; only = λ n e. valid.exit.only n ((same_exit n).1 e) };

@@ -2,12 +2,11 @@
 use Rattle.std.proofs.Common.{◌≡◌, ◌≢◌, ◌↔◌, ℕ, ◌<◌, ◌≤◌, Option, Some, None, List, [], ◌∷◌, ◌++◌, length, map, refl, sym, subst, ⊎_elim}
 use Rattle.std.specs.Prelude.{Result, Ok, Err, IfOk}
 use Rattle.qs_tree.specs.Lists.{◌∈◌}
-use Rattle.qs_tree.proofs.Members.{in_map, from_map}
+use Rattle.qs_tree.proofs.Members.{in_map, from_map, from_append}
 use Rattle.qs_graph.specs.Graphs.{Arc, QGraph, IsNode, IsEntry, IsExit, ExactlyOne}
 use Rattle.qs_graph.specs.Kept.{IsKept}
 use Rattle.qs_graph.specs.Validity.{HasCycle, LeadsInside}
-use Rattle.qs_graph.proofs.Paths.{append_cases}
-use Rattle.qs_graph.specs.Orders.{IsOutside, IsOnly}
+use Rattle.qs_graph.specs.working.Orders.{IsOutside, IsOnly}
 
 pub only_same : (P Q : ℕ → Type 0) → ((n : ℕ) → P n ↔ Q n) → (r : Option ℕ) → IsOnly P r → IsOnly Q r
 only_same P Q h (Some n) o = ((h n).0 o.0, λ m q. o.1 m ((h m).1 q))
@@ -57,7 +56,7 @@ pub inside_more : (nodes : ℕ) (arcs new : List Arc) (arc : Arc) → new ≡ ar
     → LeadsInside (record { nodes = nodes; arcs = arcs }) → LeadsInside (record { nodes = nodes; arcs = new })
 inside_more nodes arcs new arc e from to h other i = ⊎_elim (h other)
     (λ j. ⊎_elim (λ s. subst (λ (x : Arc). ((1 ≤ x.from) × (x.from ≤ nodes)) × ((1 ≤ x.to) × (x.to ≤ nodes))) (sym s) (from, to)) (λ none. absurd none) j)
-    (append_cases arcs (arc ∷ []) other (subst (λ xs. other ∈ xs) e i))
+    (from_append arcs (arc ∷ []) other (subst (λ xs. other ∈ xs) e i))
 
 pub inside_same : (nodes : ℕ) (arcs new : List Arc) → new ≡ arcs → LeadsInside (record { nodes = nodes; arcs = arcs }) → LeadsInside (record { nodes = nodes; arcs = new })
 inside_same nodes arcs new e h = subst (λ xs. LeadsInside (record { nodes = nodes; arcs = xs })) (sym e) h

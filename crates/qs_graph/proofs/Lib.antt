@@ -3,6 +3,7 @@ pub mod Lay
 pub mod Paths
 pub mod Adding
 pub mod Numbers
+pub mod GoingRound
 pub mod Taking
 pub mod Lowering
 pub mod Endpoints

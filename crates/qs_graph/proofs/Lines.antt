@@ -1,18 +1,13 @@
 -- A chain of trees between the nodes 1 and 2 is a valid graph.
-use Rattle.std.proofs.Common.{◌≡◌, ◌≢◌, ℕ, zero, suc, Some, slice_get, ◌+◌, ◌<◌, ◌≤◌, List, [], ◌∷◌, length, refl, sym, ap, inl, inr, ⊎_elim, ◌⊎◌, arith, eqb, cond}
+use Rattle.std.proofs.Common.{◌≡◌, ◌≢◌, ℕ, suc, ◌+◌, ◌<◌, ◌≤◌, List, [], ◌∷◌, length, refl, sym, ap, inl, inr, ⊎_elim, ◌⊎◌, arith, eqb, cond}
 use Rattle.std.proofs.lemmas.Bool.{cases_order}
 use Rattle.std.proofs.lemmas.Bool.Decides.{nat_tests}
 use Rattle.qs_tree.specs.Lists.{◌∈◌}
+use Rattle.qs_tree.proofs.Members.{in_at}
 use Rattle.qs_tree.specs.Trees.{Tree}
 use Rattle.qs_graph.specs.Graphs.{Arc, Leads, IsPath, IsNode, IsEntry, IsExit, IsValid}
 use Rattle.qs_graph.specs.Chains.{chain, line_graph}
 use Rattle.qs_graph.specs.Kept.{IsKept}
-
--- what is at a place of a list is in it
-pub member-slice_get : {X : Type 0} (xs : List X) (k : ℕ) (x : X) → slice_get xs k ≡ Some x → x ∈ xs
-member-slice_get [] k x e = absurd cc
-member-slice_get (y ∷ xs) zero x e = let same : y ≡ x = cc in inl (sym same)
-member-slice_get (y ∷ xs) (suc k) x e = inr (member-slice_get xs k x e)
 
 -- each arc leads to a higher rank
 abbrev pub Rises : (ℕ → ℕ) → List Arc → Type 0
@@ -21,7 +16,7 @@ Rises rank arcs = (arc : Arc) → arc ∈ arcs → rank arc.from < rank arc.to
 pub leads_up : (rank : ℕ → ℕ) (arcs : List Arc) → Rises rank arcs → (a : ℕ) (ks : List ℕ) (b : ℕ) → Leads arcs a ks b → rank a + length ks ≤ rank b
 leads_up rank arcs up a [] b e = omega (arith, ap rank e)
 leads_up rank arcs up a (k ∷ ks) b (arc, is, e, l) =
-    omega (arith, up arc (member-slice_get arcs k arc is), ap rank e, leads_up rank arcs up arc.to ks b l)
+    omega (arith, up arc (in_at arcs k arc is), ap rank e, leads_up rank arcs up arc.to ks b l)
 
 pub no_cycle : (rank : ℕ → ℕ) (arcs : List Arc) → Rises rank arcs → (a : ℕ) (path : List ℕ) → IsPath arcs a path a → ⊥
 no_cycle rank arcs up a path p = omega (arith, leads_up rank arcs up a path a p.leads, p.some)

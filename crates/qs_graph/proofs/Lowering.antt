@@ -5,9 +5,10 @@ use Rattle.std.specs.declared.vec.Vec.{Vec}
 use Rattle.qs_tree.specs.Lists.{◌∈◌}
 use Rattle.qs_tree.proofs.Decisions.{decide_number}
 use Rattle.qs_graph.specs.Graphs.{Arc}
-use Rattle.qs_graph.specs.Orders.{one_if, times, targets_from, IsLowered}
-use Rattle.qs_graph.proofs.Paths.{append_cases, append_left, append_right}
-use Rattle.qs_graph.proofs.Numbers.{other_number, one-same, one-other, times-more, times-take, apart_append, get_or-set, within_count}
+use Rattle.qs_graph.specs.working.Orders.{one_if, times, targets_from, IsLowered}
+use Rattle.qs_tree.proofs.Members.{from_append, in_append_left, in_append_right}
+use Rattle.std.proofs.lemmas.Bool.{ne_eqb}
+use Rattle.qs_graph.proofs.Numbers.{one-same, one-other, times-more, times-take, apart_append, get_or-set, within_count}
 use Rattle.qs_graph.proofs.Taking.{targets_from-more}
 
 pub nothing_lowered : (counts order : List ℕ) → IsLowered [] counts counts order order
@@ -57,12 +58,12 @@ module _ (targets counts : List ℕ) (can : (n : ℕ) → times n targets ≤ ge
         (cases n)
 
     still_target : (n : ℕ) → n ∈ take i targets → n ∈ take (i + 1) targets
-    still_target n j = subst (λ ns. n ∈ ns) (sym all) (append_left (take i targets) (t ∷ []) n j)
+    still_target n j = subst (λ ns. n ∈ ns) (sym all) (in_append_left (take i targets) (t ∷ []) n j)
 
     was_target : (n : ℕ) → n ≢ t → n ∈ take (i + 1) targets → get_or after n 0 ≡ 0 → n ∈ w.fresh
     was_target n d j z = ⊎_elim
         (λ p. absurd (d p.0))
-        (λ p. ⊎_elim (λ k. (w.are n).1 (k, sym p.1 ∙ z)) (λ k. ⊎_elim (λ s. absurd (d s)) (λ none. absurd none) k) (append_cases (take i targets) (t ∷ []) n (subst (λ ns. n ∈ ns) all j)))
+        (λ p. ⊎_elim (λ k. (w.are n).1 (k, sym p.1 ∙ z)) (λ k. ⊎_elim (λ s. absurd (d s)) (λ none. absurd none) k) (from_append (take i targets) (t ∷ []) n (subst (λ ns. n ∈ ns) all j)))
         (cases n)
 
     pub lowered_zero : (new_order : List ℕ) → v ≡ 0 → new_order ≡ now_order ++ t ∷ [] → IsLowered (take (i + 1) targets) counts after order new_order
@@ -79,14 +80,14 @@ module _ (targets counts : List ℕ) (can : (n : ℕ) → times n targets ≤ ge
         there n j = ⊎_elim
             (λ k. (still_target n ((w.are n).0 k).0, (fresh_kept n k).1))
             (λ k. ⊎_elim
-            (λ s. (subst (λ ns. n ∈ ns) (sym all) (append_right (take i targets) (t ∷ []) n (inl s)), ⊎_elim (λ q. q.1 ∙ z) (λ q. absurd (q.0 s)) (cases n)))
+            (λ s. (subst (λ ns. n ∈ ns) (sym all) (in_append_right (take i targets) (t ∷ []) n (inl s)), ⊎_elim (λ q. q.1 ∙ z) (λ q. absurd (q.0 s)) (cases n)))
             (λ none. absurd none)
             k)
-            (append_cases w.fresh (t ∷ []) n j)
+            (from_append w.fresh (t ∷ []) n j)
 
         back : (n : ℕ) → Dec (n ≡ t) → (n ∈ take (i + 1) targets) × (get_or after n 0 ≡ 0) → n ∈ (w.fresh ++ t ∷ [])
-        back n (yes s) r = append_right w.fresh (t ∷ []) n (inl s)
-        back n (no d) r = append_left w.fresh (t ∷ []) n (was_target n d r.0 r.1)
+        back n (yes s) r = in_append_right w.fresh (t ∷ []) n (inl s)
+        back n (no d) r = in_append_left w.fresh (t ∷ []) n (was_target n d r.0 r.1)
 
     pub lowered_more : (new_order : List ℕ) → v ≢ 0 → new_order ≡ now_order → IsLowered (take (i + 1) targets) counts after order new_order
     lowered_more new_order z p = record {
@@ -123,15 +124,12 @@ group_step arcs i arc groups from to was now more f t l read pushed h n =
         ∙ ap (λ b. targets_from (take i arcs) n ++ cond b (to ∷ []) []) (sym (eq-eqb from n (sym e)))
     by in_range (no d) =
         get_or-set_other (map items_of groups) from n now.items [] d ∙ h n ∙ sym (append-nil (targets_from (take i arcs) n))
-        ∙ ap (λ b. targets_from (take i arcs) n ++ cond b (to ∷ []) []) (sym (other_number from n (λ s. d (sym s))))
+        ∙ ap (λ b. targets_from (take i arcs) n ++ cond b (to ∷ []) []) (sym (ne_eqb from n (λ s. d (sym s))))
 
 member-get_or : {X : Type 0} (xs : List X) (i : ℕ) (d : X) → i < length xs → get_or xs i d ∈ xs
 member-get_or [] i d l = absurd (omega arith)
 member-get_or (x ∷ xs) zero d l = inl refl
 member-get_or (x ∷ xs) (suc i) d l = inr (member-get_or xs i d (omega arith))
-
-pub member_read : {X : Type 0} (xs : List X) (i : ℕ) (x : X) → i < length xs → x ≡ get_or xs i x → x ∈ xs
-member_read xs i x l e = subst (λ y. y ∈ xs) (sym e) (member-get_or xs i x l)
 
 -- the group that was read is that of its node
 pub group_read : (groups : List (Vec ℕ Global)) (arcs : List Arc) (k : ℕ) (at : Vec ℕ Global) → k < length groups → at ≡ get_or groups k at

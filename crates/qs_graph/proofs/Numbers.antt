@@ -1,21 +1,12 @@
 -- Lists of numbers: whether and how often a number is in one, and how many different numbers fit below a bound.
 use Rattle.std.proofs.Common.{◌≡◌, ◌≢◌, ◌⊎◌, ◌↔◌, ℕ, zero, suc, ◌+◌, ◌<◌, ◌≤◌, ◌==◌, Bool, true, false, cond, Option, Some, None, List, [], ◌∷◌, ◌++◌, length, take, get_or, set, replicate, refl, sym, ◌∙◌, ap, subst, inl, inr, ⊎_elim, arith, eqb-true, eq-eqb}
 use Rattle.std.specs.Option.{IfSome, IfNone}
+use Rattle.std.proofs.lemmas.Bool.{ne_eqb, false_from_ne_true}
 use Rattle.std.proofs.lemmas.List.{take_more, get_or-set_same, get_or-set_other}
 use Rattle.qs_tree.specs.Lists.{◌∈◌}
-use Rattle.qs_tree.proofs.Decisions.{decide_number, decide_member}
-use Rattle.qs_graph.specs.Orders.{one_if, times, has, AreApart, IsOutside, IsOnly}
-use Rattle.qs_graph.proofs.Paths.{append_cases, append_left, append_right}
-
-true_false : (b : Bool) → b ≡ true → b ≡ false → ⊥
-true_false b p q = let e : true ≡ false = sym p ∙ q in cc
-
-pub other_number : (m n : ℕ) → m ≢ n → (m == n) ≡ false
-other_number m n h = by (m == n) refl
-  where
-    by : (b : Bool) → (m == n) ≡ b → b ≡ false
-    by true e = absurd (h (eqb-true m n e))
-    by false e = refl
+use Rattle.qs_tree.proofs.Decisions.{true_false, decide_number, decide_member}
+use Rattle.qs_graph.specs.working.Orders.{one_if, times, has, AreApart, IsOutside, IsOnly}
+use Rattle.qs_tree.proofs.Members.{from_append, in_append_left, in_append_right, in_get_or}
 
 pub decide_in : (n : ℕ) (ns : List ℕ) → Dec (n ∈ ns)
 decide_in n ns = decide_member decide_number n ns
@@ -39,17 +30,13 @@ in_has (m ∷ ms) n (inr i) = by (m == n) (in_has ms n i)
     by false h = h
 
 pub not_in_has : (ns : List ℕ) (n : ℕ) → (n ∈ ns → ⊥) → has ns n ≡ false
-not_in_has ns n h = by (has ns n) refl
-  where
-    by : (b : Bool) → has ns n ≡ b → b ≡ false
-    by true e = absurd (h (has_in ns n e))
-    by false e = refl
+not_in_has ns n h = false_from_ne_true (has ns n) (λ e. h (has_in ns n e))
 
 pub has_not_in : (ns : List ℕ) (n : ℕ) → has ns n ≡ false → n ∈ ns → ⊥
-has_not_in ns n e i = true_false (has ns n) (in_has ns n i) e
+has_not_in ns n e i = true_false e (in_has ns n i)
 
 pub has-more : (ns : List ℕ) (x n : ℕ) → x ≢ n → has (ns ++ x ∷ []) n ≡ has ns n
-has-more [] x n h = ap (λ b. cond b true false) (other_number x n h)
+has-more [] x n h = ap (λ b. cond b true false) (ne_eqb x n h)
 has-more (m ∷ ms) x n h = ap (λ b. cond (m == n) true b) (has-more ms x n h)
 
 -- how often a number is in a list
@@ -65,7 +52,7 @@ pub one-same : (n m : ℕ) → n ≡ m → one_if (n == m) ≡ 1
 one-same n m e = ap one_if (eq-eqb n m e)
 
 pub one-other : (n m : ℕ) → n ≢ m → one_if (n == m) ≡ 0
-one-other n m h = ap one_if (other_number n m h)
+one-other n m h = ap one_if (ne_eqb n m h)
 
 one-le : (b : Bool) → one_if b ≤ 1
 one-le true = omega arith
@@ -107,7 +94,7 @@ length-without n (m ∷ ms) i = by (m == n) refl i (length-without n ms)
   where
     by : (b : Bool) → (m == n) ≡ b → n ∈ (m ∷ ms) → (n ∈ ms → length ms ≡ suc (length (without n ms))) → suc (length ms) ≡ suc (length (cond b ms (m ∷ without n ms)))
     by true e _ _ = refl
-    by false e (inl s) _ = absurd (true_false (m == n) (eq-eqb m n (sym s)) e)
+    by false e (inl s) _ = absurd (true_false e (eq-eqb m n (sym s)))
     by false e (inr j) rest = ap suc (rest j)
 
 still_without : (n k : ℕ) (ms : List ℕ) → k ∈ ms → k ≢ n → k ∈ without n ms
@@ -172,7 +159,7 @@ missing (suc N) ns l = by (decide_in (suc N) ns) (missing N (without (suc N) ns)
 pub apart_append : (ns ms : List ℕ) → AreApart ns → AreApart ms → ((n : ℕ) → n ∈ ns → n ∈ ms → ⊥) → AreApart (ns ++ ms)
 apart_append [] ms a b h = b
 apart_append (n ∷ ns) ms a b h = (
-  λ i. ⊎_elim a.0 (h n (inl refl)) (append_cases ns ms n i),
+  λ i. ⊎_elim a.0 (h n (inl refl)) (from_append ns ms n i),
   apart_append ns ms a.1 b (λ m i. h m (inr i)),
 )
 
@@ -189,16 +176,11 @@ apart_take [] (suc i) a = tt
 apart_take (n ∷ ns) zero a = tt
 apart_take (n ∷ ns) (suc i) a = (λ j. a.0 (in_take ns i n j), apart_take ns i a.1)
 
-pub in_at : (ns : List ℕ) (i : ℕ) → i < length ns → get_or ns i 0 ∈ ns
-in_at [] i l = absurd (omega arith)
-in_at (n ∷ ns) zero l = inl refl
-in_at (n ∷ ns) (suc i) l = inr (in_at ns i (omega arith))
-
 -- what stands at a place doesn't stand before it
 pub apart_at : (ns : List ℕ) (i : ℕ) → AreApart ns → i < length ns → get_or ns i 0 ∈ take i ns → ⊥
 apart_at [] i a l j = absurd (omega arith)
 apart_at (n ∷ ns) zero a l j = absurd j
-apart_at (n ∷ ns) (suc i) a l (inl e) = a.0 (subst (λ m. m ∈ ns) e (in_at ns i (omega arith)))
+apart_at (n ∷ ns) (suc i) a l (inl e) = a.0 (subst (λ m. m ∈ ns) e (in_get_or ns i 0 (omega arith)))
 apart_at (n ∷ ns) (suc i) a l (inr j) = apart_at ns i a.1 (omega arith) j
 
 -- how many members stand before the first n
@@ -213,13 +195,13 @@ before_in n (m ∷ ms) ks i = by (m == n) refl i (before_in n ms ks)
     by : (b : Bool) → (m == n) ≡ b → n ∈ (m ∷ ms) → (n ∈ ms → (before n (ms ++ ks) ≡ before n ms) × (before n ms < length ms))
         → (cond b 0 (1 + before n (ms ++ ks)) ≡ cond b 0 (1 + before n ms)) × (cond b 0 (1 + before n ms) < suc (length ms))
     by true e _ _ = (refl, omega arith)
-    by false e (inl s) _ = absurd (true_false (m == n) (eq-eqb m n (sym s)) e)
+    by false e (inl s) _ = absurd (true_false e (eq-eqb m n (sym s)))
     by false e (inr j) rest = let r = rest j in (omega (arith, r.0), omega (arith, r.1))
 
 pub before_last : (n : ℕ) (ms : List ℕ) → (n ∈ ms → ⊥) → before n (ms ++ n ∷ []) ≡ length ms
 before_last n [] h = ap (λ b. cond b 0 1) (eq-eqb n n refl)
 before_last n (m ∷ ms) h =
-    ap (λ b. cond b 0 (1 + before n (ms ++ n ∷ []))) (other_number m n (λ e. h (inl (sym e)))) ∙ (let r = before_last n ms (λ i. h (inr i)) in omega (arith, r))
+    ap (λ b. cond b 0 (1 + before n (ms ++ n ∷ []))) (ne_eqb m n (λ e. h (inl (sym e)))) ∙ (let r = before_last n ms (λ i. h (inr i)) in omega (arith, r))
 
 -- a count that is set
 pub get_or-set : (ns : List ℕ) (i v n : ℕ) → i < length ns → ((n ≡ i) × (get_or (set ns i v) n 0 ≡ v)) ⊎ ((n ≢ i) × (get_or (set ns i v) n 0 ≡ get_or ns n 0))
@@ -257,14 +239,14 @@ pub zeros_more : (counts ns new : List ℕ) (i : ℕ) → 1 ≤ i → get_or cou
 zeros_more counts ns new i l z e h = subst (λ ms. AreZeros counts ms (i + 1)) (sym e) (
   apart_append ns (i ∷ []) h.0 ((λ j. j), tt) (λ n j k. ⊎_elim (λ s. omega (arith, (h.1 n).0 j)) (λ none. none) k),
   λ n. (
-    λ j. ⊎_elim (λ k. let r = (h.1 n).0 k in (r.0, omega (arith, r.1), r.2)) (λ k. ⊎_elim (λ s. (omega arith, omega arith, ap (λ m. get_or counts m 0) s ∙ z)) (λ none. absurd none) k) (append_cases ns (i ∷ []) n j),
+    λ j. ⊎_elim (λ k. let r = (h.1 n).0 k in (r.0, omega (arith, r.1), r.2)) (λ k. ⊎_elim (λ s. (omega arith, omega arith, ap (λ m. get_or counts m 0) s ∙ z)) (λ none. absurd none) k) (from_append ns (i ∷ []) n j),
     λ r. by n r (decide_number n i),
   ),
 )
   where
     by : (n : ℕ) → (1 ≤ n) × (n < i + 1) × (get_or counts n 0 ≡ 0) → Dec (n ≡ i) → n ∈ (ns ++ i ∷ [])
-    by n r (yes s) = append_right ns (i ∷ []) n (inl s)
-    by n r (no f) = append_left ns (i ∷ []) n ((h.1 n).1 (r.0, omega (arith, r.1), r.2))
+    by n r (yes s) = in_append_right ns (i ∷ []) n (inl s)
+    by n r (no f) = in_append_left ns (i ∷ []) n ((h.1 n).1 (r.0, omega (arith, r.1), r.2))
 
 pub zeros_same : (counts ns new : List ℕ) (i : ℕ) → get_or counts i 0 ≢ 0 → new ≡ ns → AreZeros counts ns i → AreZeros counts new (i + 1)
 zeros_same counts ns new i z e h = subst (λ ms. AreZeros counts ms (i + 1)) (sym e) (

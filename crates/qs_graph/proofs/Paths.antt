@@ -2,7 +2,7 @@
 use Rattle.std.proofs.Common.{◌≡◌, ◌⊎◌, ℕ, zero, suc, Some, slice_get, List, [], ◌∷◌, ◌++◌, refl, sym, ap, subst, inl, inr, ⊎_elim, arith, length-append}
 use Rattle.qs_tree.specs.Lists.{◌∈◌}
 use Rattle.qs_graph.specs.Graphs.{Arc, QGraph, Leads, IsPath, IsValid}
-use Rattle.qs_graph.proofs.Lines.{member-slice_get}
+use Rattle.qs_tree.proofs.Members.{in_at}
 
 -- a member stands at a place of the list
 pub place_of : {X : Type 0} (xs : List X) (x : X) → x ∈ xs → (k : ℕ) × (slice_get xs k ≡ Some x)
@@ -15,21 +15,6 @@ pub slice_get-append : {X : Type 0} (xs ys : List X) (k : ℕ) (x : X) → slice
 slice_get-append [] ys k x e = absurd cc
 slice_get-append (y ∷ xs) ys zero x e = e
 slice_get-append (y ∷ xs) ys (suc k) x e = slice_get-append xs ys k x e
-
--- a member of two lists, one behind the other, is in one of them
-pub append_cases : {X : Type 0} (xs ys : List X) (x : X) → x ∈ (xs ++ ys) → (x ∈ xs) ⊎ (x ∈ ys)
-append_cases [] ys x i = inr i
-append_cases (y ∷ xs) ys x (inl e) = inl (inl e)
-append_cases (y ∷ xs) ys x (inr i) = ⊎_elim (λ j. inl (inr j)) inr (append_cases xs ys x i)
-
-pub append_left : {X : Type 0} (xs ys : List X) (x : X) → x ∈ xs → x ∈ (xs ++ ys)
-append_left [] ys x i = absurd i
-append_left (y ∷ xs) ys x (inl e) = inl e
-append_left (y ∷ xs) ys x (inr i) = inr (append_left xs ys x i)
-
-pub append_right : {X : Type 0} (xs ys : List X) (x : X) → x ∈ ys → x ∈ (xs ++ ys)
-append_right [] ys x i = i
-append_right (y ∷ xs) ys x i = inr (append_right xs ys x i)
 
 -- one path behind another
 pub leads-append : (arcs : List Arc) (a : ℕ) (ks : List ℕ) (b : ℕ) (ls : List ℕ) (c : ℕ) → Leads arcs a ks b → Leads arcs b ls c → Leads arcs a (ks ++ ls) c
@@ -44,10 +29,10 @@ leads_more arcs more a (k ∷ ks) b (arc, is, e, l) = (arc, slice_get-append arc
 -- the first and the last arc of a path
 pub first_arc : (arcs : List Arc) (a : ℕ) (path : List ℕ) (b : ℕ) → IsPath arcs a path b → (arc : Arc) × (arc ∈ arcs) × (arc.from ≡ a)
 first_arc arcs a [] b p = absurd (omega (arith, p.some))
-first_arc arcs a (k ∷ ks) b p = let (arc, is, e, l) = p.leads in (arc, member-slice_get arcs k arc is, e)
+first_arc arcs a (k ∷ ks) b p = let (arc, is, e, l) = p.leads in (arc, in_at arcs k arc is, e)
 
 leads_last : (arcs : List Arc) (a k : ℕ) (ks : List ℕ) (b : ℕ) → Leads arcs a (k ∷ ks) b → (arc : Arc) × (arc ∈ arcs) × (arc.to ≡ b)
-leads_last arcs a k [] b (arc, is, e, l) = (arc, member-slice_get arcs k arc is, l)
+leads_last arcs a k [] b (arc, is, e, l) = (arc, in_at arcs k arc is, l)
 leads_last arcs a k (j ∷ ks) b (arc, is, e, l) = leads_last arcs arc.to j ks b l
 
 pub last_arc : (arcs : List Arc) (a : ℕ) (path : List ℕ) (b : ℕ) → IsPath arcs a path b → (arc : Arc) × (arc ∈ arcs) × (arc.to ≡ b)
@@ -58,9 +43,9 @@ last_arc arcs a (k ∷ ks) b p = leads_last arcs a k ks b p.leads
 module _ (Above : ℕ → ℕ → Type 0) (trans : (a b c : ℕ) → Above a b → Above b c → Above a c) (arcs : List Arc) (rises : (arc : Arc) → arc ∈ arcs → Above arc.from arc.to) where
   leads_above : (a k : ℕ) (ks : List ℕ) (b : ℕ) → Leads arcs a (k ∷ ks) b → Above a b
   leads_above a k [] b (arc, is, e, l) =
-      subst (λ n. Above n b) e (subst (λ n. Above arc.from n) l (rises arc (member-slice_get arcs k arc is)))
+      subst (λ n. Above n b) e (subst (λ n. Above arc.from n) l (rises arc (in_at arcs k arc is)))
   leads_above a k (j ∷ ks) b (arc, is, e, l) =
-      trans a arc.to b (subst (λ n. Above n arc.to) e (rises arc (member-slice_get arcs k arc is))) (leads_above arc.to j ks b l)
+      trans a arc.to b (subst (λ n. Above n arc.to) e (rises arc (in_at arcs k arc is))) (leads_above arc.to j ks b l)
 
   pub path_above : (a : ℕ) (path : List ℕ) (b : ℕ) → IsPath arcs a path b → Above a b
   path_above a [] b p = absurd (omega (arith, p.some))

@@ -1,14 +1,16 @@
 -- Taking nodes one by one, each when all arcs into it come from nodes that were taken before.
-use Rattle.std.proofs.Common.{◌≡◌, ◌↔◌, ℕ, zero, suc, ◌+◌, ◌<◌, ◌≤◌, ◌==◌, Bool, true, false, cond, List, [], ◌∷◌, ◌++◌, length, take, get_or, map, refl, sym, ◌∙◌, ap, subst, inl, inr, ⊎_elim, arith, length-append, eqb-true, eq-eqb}
+use Rattle.std.proofs.Common.{◌≡◌, ◌↔◌, ℕ, ◌+◌, ◌<◌, ◌≤◌, ◌==◌, Bool, true, false, cond, List, [], ◌∷◌, ◌++◌, length, take, get_or, map, refl, sym, ◌∙◌, ap, subst, inl, inr, ⊎_elim, arith, length-append, eqb-true, eq-eqb}
 use Rattle.std.proofs.Math.Seq.{take-length}
 use Rattle.std.proofs.lemmas.List.{take_more, length-take, take-append-le}
 use Rattle.qs_tree.specs.Lists.{◌∈◌}
 use Rattle.qs_tree.proofs.Decisions.{decide_number}
 use Rattle.qs_graph.specs.Graphs.{Arc, IsNode}
 use Rattle.qs_graph.specs.Validity.{HasCycle}
-use Rattle.qs_graph.specs.Orders.{one_if, times, has, AreApart, targets_from, IsLowered}
-use Rattle.qs_graph.proofs.Paths.{append_cases, append_left, append_right, path_above, Joined, joined_arc, joined_then, JoinedOrSame}
-use Rattle.qs_graph.proofs.Numbers.{decide_in, has_in, in_has, not_in_has, has_not_in, has-more, times_in, times_not_in, apart_append, apart_at, apart_take, apart_fit, apart_full, missing, in_at, in_take, before, before_in, before_last}
+use Rattle.qs_graph.specs.working.Orders.{one_if, times, has, AreApart, targets_from, IsLowered}
+use Rattle.qs_tree.proofs.Members.{from_append, in_append_left, in_append_right, in_get_or}
+use Rattle.qs_graph.proofs.GoingRound.{goes_round}
+use Rattle.qs_graph.proofs.Paths.{path_above}
+use Rattle.qs_graph.proofs.Numbers.{decide_in, has_in, in_has, not_in_has, has_not_in, has-more, times_in, times_not_in, apart_append, apart_at, apart_take, apart_full, missing, in_take, before, before_in, before_last}
 
 -- 1 where an arc to n comes from a node that wasn't taken
 abbrev pub waits : Bool → Bool → ℕ
@@ -39,7 +41,7 @@ arriving_less (arc ∷ arcs) done x n h = by (arc.from == x) refl (arriving_less
     by true e rest =
         let same : arc.from ≡ x = eqb-true arc.from x e in
         let was : waits (arc.to == n) (has done arc.from) ≡ one_if (arc.to == n) = ap (waits (arc.to == n)) (not_in_has done arc.from (λ i. h (subst (λ m. m ∈ done) same i))) in
-        let is : waits (arc.to == n) (has (done ++ x ∷ []) arc.from) ≡ 0 = ap (waits (arc.to == n)) (in_has (done ++ x ∷ []) arc.from (append_right done (x ∷ []) arc.from (inl same))) in
+        let is : waits (arc.to == n) (has (done ++ x ∷ []) arc.from) ≡ 0 = ap (waits (arc.to == n)) (in_has (done ++ x ∷ []) arc.from (in_append_right done (x ∷ []) arc.from (inl same))) in
         omega (arith, was, is, rest)
     by false e rest =
         let kept : waits (arc.to == n) (has (done ++ x ∷ []) arc.from) ≡ waits (arc.to == n) (has done arc.from) =
@@ -119,7 +121,7 @@ module _ (nodes : ℕ) (arcs : List Arc) (in_range : (arc : Arc) → arc ∈ arc
   module _ (counts order : List ℕ) (taken : ℕ) (t : IsTaking nodes arcs counts order taken) where
     -- the next node is a node, and no arc counts that leads to it
     pub next_node : taken < length order → (1 ≤ get_or order taken 0) × (get_or order taken 0 ≤ nodes) × (get_or counts (get_or order taken 0) 0 ≡ 0)
-    next_node l = (t.are (get_or order taken 0)).0 (in_at order taken l)
+    next_node l = (t.are (get_or order taken 0)).0 (in_get_or order taken 0 l)
 
     pub can_lower : taken < length order → (n : ℕ) → times n (targets_from arcs (get_or order taken 0)) ≤ get_or counts n 0
     can_lower l n = omega (arith, t.counts_are n, arriving_less arcs (take taken order) (get_or order taken 0) n (apart_at order taken t.apart l))
@@ -155,29 +157,29 @@ module _ (nodes : ℕ) (arcs : List Arc) (in_range : (arc : Arc) → arc ∈ arc
           let (arc, k, to) = target_of arcs x n r.0 in
           let in_graph = (in_range arc k).1 in
           (omega (arith, in_graph.0, to), omega (arith, in_graph.1, to), r.1))
-          (append_cases order w.fresh n (subst (λ ns. n ∈ ns) w.behind i))
+          (from_append order w.fresh n (subst (λ ns. n ∈ ns) w.behind i))
 
       are_back : (n : ℕ) → (1 ≤ n) × (n ≤ nodes) × (get_or new_counts n 0 ≡ 0) → n ∈ new_order
       are_back n r = subst (λ ns. n ∈ ns) (sym w.behind) (by (decide_in n (targets_from arcs x)))
         where
           by : Dec (n ∈ targets_from arcs x) → n ∈ (order ++ w.fresh)
-          by (yes i) = append_right order w.fresh n ((w.are n).1 (i, r.2))
-          by (no f) = append_left order w.fresh n ((t.are n).1 (r.0, r.1, omega (arith, r.2, w.lower n, times_not_in n (targets_from arcs x) f)))
+          by (yes i) = in_append_right order w.fresh n ((w.are n).1 (i, r.2))
+          by (no f) = in_append_left order w.fresh n ((t.are n).1 (r.0, r.1, omega (arith, r.2, w.lower n, times_not_in n (targets_from arcs x) f)))
 
       forward_next : (arc : Arc) → arc ∈ arcs → arc.to ∈ (done ++ x ∷ []) → (arc.from ∈ (done ++ x ∷ [])) × (before arc.from (done ++ x ∷ []) < before arc.to (done ++ x ∷ []))
       forward_next arc i j = ⊎_elim
           (λ k.
           let r = t.forward arc i k in
-          (append_left done (x ∷ []) arc.from r.0, omega (arith, r.1, (before_in arc.from done (x ∷ []) r.0).0, (before_in arc.to done (x ∷ []) k).0)))
+          (in_append_left done (x ∷ []) arc.from r.0, omega (arith, r.1, (before_in arc.from done (x ∷ []) r.0).0, (before_in arc.to done (x ∷ []) k).0)))
           (λ k. ⊎_elim
           (λ s.
           let from : arc.from ∈ done = none_arrives arcs done x (sym (t.counts_are x) ∙ (next_node l).2) arc i s in
           let low = before_in arc.from done (x ∷ []) from in
           let high : before arc.to (done ++ x ∷ []) ≡ length done = ap (λ n. before n (done ++ x ∷ [])) s ∙ before_last x done x_new in
-          (append_left done (x ∷ []) arc.from from, omega (arith, low.0, low.1, high)))
+          (in_append_left done (x ∷ []) arc.from from, omega (arith, low.0, low.1, high)))
           (λ none. absurd none)
           k)
-          (append_cases done (x ∷ []) arc.to j)
+          (from_append done (x ∷ []) arc.to j)
 
       pub taking_next : IsTaking nodes arcs new_counts new_order (taken + 1)
       taking_next = record {
@@ -223,27 +225,7 @@ module _ (nodes : ℕ) (arcs : List Arc) (in_range : (arc : Arc) → arc ∈ arc
           by (yes e) = absurd (left.2 ((t.are n).1 (left.0, left.1, e)))
           by (no f) = omega (arith, f, t.counts_are n, ap (λ ds. arriving arcs ds n) whole)
 
-      -- from n back through nodes that are left, until one comes again
-      walk : (more : ℕ) (n : ℕ) (seen : List ℕ) → IsLeft n → AreApart (n ∷ seen) → ((m : ℕ) → m ∈ (n ∷ seen) → IsLeft m × JoinedOrSame arcs n m) → nodes < more + length (n ∷ seen) → HasCycle arcs
-      walk zero n seen left a h l = absurd (omega (arith, l, apart_fit nodes (n ∷ seen) a (λ m i. let r = (h m i).0 in (r.0, r.1))))
-      walk (suc more) n seen left a h l =
-          let (arc, i, to, left') = back n left in
-          by arc i to left' (decide_in arc.from (n ∷ seen))
-          (λ f j. walk more arc.from (n ∷ seen) left' (f, a) j (omega (arith, l)))
-        where
-          onto : (arc : Arc) → arc ∈ arcs → arc.to ≡ n → Joined arcs arc.from n
-          onto arc i to = subst (λ k. Joined arcs arc.from k) to (joined_arc arcs arc i)
-
-          by : (arc : Arc) → arc ∈ arcs → arc.to ≡ n → IsLeft arc.from → Dec (arc.from ∈ (n ∷ seen))
-              → ((arc.from ∈ (n ∷ seen) → ⊥) → ((m : ℕ) → m ∈ (arc.from ∷ n ∷ seen) → IsLeft m × JoinedOrSame arcs arc.from m) → HasCycle arcs) → HasCycle arcs
-          by arc i to left' (yes j) rest =
-              let again = joined_then arcs arc.from n arc.from (onto arc i to) (h arc.from j).1 in
-              record { node = arc.from; path = again.path; is = again.is }
-          by arc i to left' (no f) rest = rest f (λ m. ⊎_elim
-              (λ s. (subst IsLeft (sym s) left', inl (sym s)))
-              (λ j. ((h m j).0, inr (joined_then arcs arc.from n m (onto arc i to) (h m j).1))))
-
       pub cycle_left : taken < nodes → HasCycle arcs
       cycle_left l =
           let (n, low, high, out) = missing nodes order (omega (arith, l, all)) in
-          walk nodes n [] (low, high, out) ((λ j. j), tt) (λ m. ⊎_elim (λ s. (subst IsLeft (sym s) (low, high, out), inl (sym s))) (λ none. absurd none)) (omega arith)
+          goes_round nodes arcs IsLeft (λ m left. (left.0, left.1)) back n (low, high, out)

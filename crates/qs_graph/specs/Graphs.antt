@@ -1,5 +1,5 @@
--- Q-graphs and their paths, after Colmerauer: a graph without cycles, with one entry and one exit, whose arcs carry trees.
--- The definitions speak of paths; the code counts and marks.
+-- Q-graphs and their paths, after Colmerauer: a graph without cycles, with one entry and one exit, whose arcs carry
+-- trees. The definitions speak of paths; the code counts and marks.
 use Rattle.std.specs.Prelude.{ℕ, ◌≤◌, ◌<◌, ◌≡◌, ◌≢◌, List, [], ◌∷◌, length, slice_get, map, Some}
 use Rattle.std.specs.List.{filter_map}
 use Rattle.qs_tree.specs.Lists.{◌∈◌}
@@ -51,8 +51,8 @@ pub record ExactlyOne (P : ℕ → Type 0) : Type 0 where
   pub holds : P one
   pub only : (n : ℕ) → P n → n ≡ one
 
--- A graph is valid where it has an arc, its arcs lead from node to node, no path comes back to where it starts, and there
--- are exactly one entry and exactly one exit.
+-- A graph is valid where it has an arc, its arcs lead from node to node, no path comes back to where it starts, and
+-- there are exactly one entry and exactly one exit.
 pub record IsValid (G : QGraph) : Type 0 where
   pub some_arc : 0 < length G.arcs
   pub in_range : (arc : Arc) → arc ∈ G.arcs → IsNode G arc.from × IsNode G arc.to

@@ -2,5 +2,4 @@ pub mod Graphs
 pub mod Validity
 pub mod Chains
 pub mod Kept
-pub mod Codes
-pub mod Orders
+pub mod working

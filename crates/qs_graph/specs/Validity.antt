@@ -15,8 +15,8 @@ pub record HasCycle (arcs : List Arc) : Type 0 where
   pub path : List ℕ
   pub is : IsPath arcs node path node
 
--- Why nodes and arcs make no valid graph: there is a cycle; else not exactly one node is an entry; else not exactly one is
--- an exit. Want of memory says nothing of them.
+-- Why nodes and arcs make no valid graph: there is a cycle; else not exactly one node is an entry; else not exactly one
+-- is an exit. Want of memory says nothing of them.
 abbrev pub IsRefused : QGraph → GraphEnd → Type 0
 IsRefused G end.Cycle = HasCycle G.arcs
 IsRefused G end.Entries = (HasCycle G.arcs → ⊥) × (ExactlyOne (IsEntry G) → ⊥)

@@ -1,10 +1,11 @@
 //! The nodes at which no arc ends, or from which none begins.
 
-ghost use Rattle.std.specs.Prelude.{◌≡◌, ◌≢◌, ◌↔◌, ◌<◌, ◌≤◌, ◌+◌, ◌^◌, ◌∷◌, [], ℕ, IfOk, IfSome, IfNone, length, map, slice_index_or};
+ghost use Rattle.std.specs.Prelude.{◌≡◌, ◌≢◌, ◌↔◌, ◌<◌, ◌≤◌, ◌+◌, ◌^◌, ◌∷◌, [], ℕ, IfOk, IfSome, IfNone, length, map};
+ghost use Rattle.std.specs.Prelude.{slice_index_or};
 ghost use Rattle.qs_tree.specs.Lists.{◌∈◌};
 ghost use Rattle.qs_graph.specs.Graphs.{IsEntry, IsExit};
 ghost use Rattle.qs_graph.specs.Validity.{LeadsInside};
-ghost use Rattle.qs_graph.specs.Orders.{times, AreApart, IsOutside, IsOnly};
+ghost use Rattle.qs_graph.specs.working.Orders.{times, AreApart, IsOutside, IsOnly};
 
 use crate::edge::Edge;
 use std::alloc::{AllocError, Global};
@@ -73,7 +74,8 @@ pub fn uncounted(alloc: Global, counts: &[u32]) -> Result<Vec<u32>, AllocError>
     requires some { 0 < length counts.now }
     requires few { length counts.now ≤ 2 ^ 32 }
     ensures apart { IfOk result (λ v. AreApart v.items) }
-    ensures are { IfOk result (λ v. (n : ℕ) → n ∈ v.items ↔ ((1 ≤ n) × (n < length counts.now) × (slice_index_or counts.now n 0 ≡ 0))) }
+    ensures are { IfOk result (λ v. (n : ℕ)
+        → n ∈ v.items ↔ ((1 ≤ n) × (n < length counts.now) × (slice_index_or counts.now n 0 ≡ 0))) }
 {
     let mut numbers = Vec::new(alloc);
     for number in 1..counts.len() {

@@ -11,7 +11,8 @@ use std::alloc::{AllocError, Global};
 use std::marker::Model;
 
 /// A valid Q-graph: a number of nodes, which are numbered from 1, and a list of arcs. It has at least one arc and fewer
-/// than 4,294,967,295, no cycle, one node without an arc into it, the entry, and one without an arc out of it, the exit.
+/// than 4,294,967,295, no cycle, one node without an arc into it, the entry, and one without an arc out of it,
+/// the exit.
 #[derive(Drop)]
 pub struct Graph {
     alloc: Global,
@@ -23,7 +24,7 @@ pub struct Graph {
 
 impl Model for Graph {
     ghost use Rattle.qs_graph.specs.Graphs.{QGraph, IsValid, IsEntry, IsExit};
-    ghost use Rattle.qs_graph.specs.Codes.{graph_code};
+    ghost use Rattle.qs_graph.specs.working.Codes.{graph_code};
 
     ghost Value = { QGraph };
 
@@ -68,8 +69,8 @@ impl Graph {
         self.exit
     }
 
-    /// The graph with the nodes 1 to `nodes` and these arcs, which have to make a valid graph of fewer than 4,294,967,295
-    /// arcs with this entry and this exit. Takes no memory.
+    /// The graph with the nodes 1 to `nodes` and these arcs, which have to make a valid graph of fewer than
+    /// 4,294,967,295 arcs with this entry and this exit. Takes no memory.
     pub fn of_valid(alloc: Global, nodes: u32, entry: u32, exit: u32, edges: Vec<Edge>) -> Graph
         requires { IsKept (record { nodes = nodes; arcs = edges.items }) entry exit }
         ensures { result ≡ record { nodes = nodes; arcs = edges.items } }
@@ -83,8 +84,8 @@ impl Graph {
         }
     }
 
-    /// The chain of the trees from the node `from` to the node `to`, which are 1 and 2 in either order, with inner nodes
-    /// from 3 on. There are 1 to 65,536 trees.
+    /// The chain of the trees from the node `from` to the node `to`, which are 1 and 2 in either order, with inner
+    /// nodes from 3 on. There are 1 to 65,536 trees.
     pub fn line(alloc: Global, from: u32, to: u32, trees: Vec<Tree>) -> Result<Graph, AllocError>
         requires ends { from + to ≡ 3 }
         requires from_in { 0 < from }
@@ -99,11 +100,7 @@ impl Graph {
         let mut next = 3;
         for tree in trees {
             let end = if edges.len() + 1 == len { to } else { next };
-            edges.push(Edge {
-                from: at,
-                to: end,
-                tree,
-            })?;
+            edges.push(Edge::new(alloc, at, end, tree)?)?;
             at = end;
             next += 1;
         }
@@ -116,7 +113,7 @@ impl Graph {
         })
     }
 
-    /// An equal graph.
+    /// An equal graph, whose arcs own the same trees. No tree is copied.
     pub fn copy(&self) -> Result<Graph, AllocError>
         ensures { IfOk result (λ g. g ≡ self.now) }
     {

@@ -12,7 +12,10 @@ pub fn line_is_valid()
 
 /// A chain of at least one tree, added between the ends of a path, keeps a graph valid, with the same entry and exit.
 pub fn chain_keeps_validity()
-    ensures valid { (G : QGraph) (a b : ℕ) (path : List ℕ) (ts : List Tree) → IsValid G → IsPath G.arcs a path b → 0 < length ts → IsValid (with_chain G a ts b) }
-    ensures entry { (G : QGraph) (a b : ℕ) (path : List ℕ) (ts : List Tree) → IsValid G → IsPath G.arcs a path b → 0 < length ts → (n : ℕ) → IsEntry G n ↔ IsEntry (with_chain G a ts b) n }
-    ensures exit { (G : QGraph) (a b : ℕ) (path : List ℕ) (ts : List Tree) → IsValid G → IsPath G.arcs a path b → 0 < length ts → (n : ℕ) → IsExit G n ↔ IsExit (with_chain G a ts b) n }
+    ensures valid { (G : QGraph) (a b : ℕ) (path : List ℕ) (ts : List Tree) → IsValid G → IsPath G.arcs a path b
+        → 0 < length ts → IsValid (with_chain G a ts b) }
+    ensures entry { (G : QGraph) (a b : ℕ) (path : List ℕ) (ts : List Tree) → IsValid G → IsPath G.arcs a path b
+        → 0 < length ts → (n : ℕ) → IsEntry G n ↔ IsEntry (with_chain G a ts b) n }
+    ensures exit { (G : QGraph) (a b : ℕ) (path : List ℕ) (ts : List Tree) → IsValid G → IsPath G.arcs a path b
+        → 0 < length ts → (n : ℕ) → IsExit G n ↔ IsExit (with_chain G a ts b) n }
 {}

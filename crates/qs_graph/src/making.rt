@@ -36,11 +36,11 @@ impl From<AllocError> for GraphEnd {
 }
 
 impl Graph {
-    /// The graph with the nodes 1 to `nodes` and these arcs in this order. There is at least one arc, there are fewer than
-    /// 4,294,967,295, and each leads from node to node. `Cycle` comes exactly where there is a cycle; else `Entries`
-    /// exactly where the number of nodes without an arc into them is not one; else `Exits` exactly where the number of
-    /// nodes without an arc out of them is not one; `Memory` may come for any arcs. Time and memory are linear in the
-    /// nodes and the arcs. A list that is refused is dropped.
+    /// The graph with the nodes 1 to `nodes` and these arcs in this order. There is at least one arc, there are fewer
+    /// than 4,294,967,295, and each leads from node to node. `Cycle` comes exactly where there is a cycle; else
+    /// `Entries` exactly where the number of nodes without an arc into them is not one; else `Exits` exactly where the
+    /// number of nodes without an arc out of them is not one; `Memory` may come for any arcs. Time and memory are
+    /// linear in the nodes and the arcs. A list that is refused is dropped.
     pub fn new(alloc: Global, nodes: u32, edges: Vec<Edge>) -> Result<Graph, GraphEnd>
         requires some { 0 < length edges.items }
         requires few { length edges.items < 4294967295 }

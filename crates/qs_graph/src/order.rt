@@ -1,10 +1,11 @@
 //! Taking nodes one by one, each when all arcs into it come from nodes that were taken before.
 
-ghost use Rattle.std.specs.Prelude.{◌≡◌, ◌<◌, ◌≤◌, ◌+◌, ◌^◌, ℕ, true, false, List, [], IfOk, OnOk, length, map, slice_index_or};
+ghost use Rattle.std.specs.Prelude.{◌≡◌, ◌<◌, ◌≤◌, ◌+◌, ◌^◌, ℕ, true, false, List, [], IfOk, OnOk, length, map};
+ghost use Rattle.std.specs.Prelude.{slice_index_or};
 ghost use Rattle.qs_tree.specs.Lists.{◌∈◌};
 ghost use Rattle.qs_graph.specs.Graphs.{Arc};
 ghost use Rattle.qs_graph.specs.Validity.{LeadsInside, HasCycle};
-ghost use Rattle.qs_graph.specs.Orders.{times, targets_from, IsLowered};
+ghost use Rattle.qs_graph.specs.working.Orders.{times, targets_from, IsLowered};
 
 use crate::edge::Edge;
 use crate::ends::{tally, targets_of, uncounted};
@@ -50,7 +51,8 @@ fn lower(counts: &mut [u32], order: &mut Vec<u32>, targets: &[u32]) -> Result<()
 fn grouped(alloc: Global, nodes: u32, edges: &[Edge]) -> Result<Vec<Vec<u32>>, AllocError>
     requires { (arc : Arc) → arc ∈ edges.now → arc.from ≤ nodes }
     ensures len { IfOk result (λ v. length v.items ≡ nodes + 1) }
-    ensures groups { IfOk result (λ v. (n : ℕ) → slice_index_or (map (λ group. group.items) v.items) n [] ≡ targets_from edges.now n) }
+    ensures groups { IfOk result (λ v. (n : ℕ)
+        → slice_index_or (map (λ group. group.items) v.items) n [] ≡ targets_from edges.now n) }
 {
     let mut groups = empty_groups(alloc, nodes)?;
     for edge in edges {

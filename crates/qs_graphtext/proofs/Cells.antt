@@ -4,19 +4,16 @@ use Rattle.std.specs.Prelude.{slice_set}
 use Rattle.std.proofs.lemmas.List.{set_at}
 use Rattle.qs_tree.specs.declared.cell.Label.{Label}
 use Rattle.qs_tree.specs.declared.cell.Cell.{Cell}
-use Rattle.qs_tree.specs.Trees.{Forest, no_tree, first_tree, Tree, size, join}
-use Rattle.qs_tree.specs.Cells.{cells_of, cells_of_tree, IsTree, tree_of, tree_of-cells_of_tree}
+use Rattle.qs_tree.specs.Trees.{Forest, no_tree, first_tree, Tree, size}
+use Rattle.qs_tree.specs.working.Trees.{join}
+use Rattle.qs_tree.specs.Cells.{cells_of, cells_of_tree, IsTree, tree_of}
+use Rattle.qs_tree.specs.working.Cells.{tree_of-cells_of_tree}
 use Rattle.qs_tree.proofs.Runs.{length-cells_of}
+use Rattle.qs_tree.proofs.Joined.{cells_of-join}
 
 pub join_assoc : (f g h : Forest) → join (join f g) h ≡ join f (join g h)
 join_assoc no_tree g h = refl
 join_assoc (first_tree l k r) g h = ap (λ x. first_tree l k x) (join_assoc r g h)
-
-cells_of-join : (f g : Forest) → cells_of (join f g) ≡ cells_of f ++ cells_of g
-cells_of-join no_tree g = refl
-cells_of-join (first_tree l k r) g =
-    ap (λ xs. record { label = l; extent = suc (size k) } ∷ (cells_of k ++ xs)) (cells_of-join r g)
-    ∙ ap (λ xs. record { label = l; extent = suc (size k) } ∷ xs) (sym (append_assoc (cells_of k) (cells_of r) (cells_of g)))
 
 cells_of_one : (t : Tree) → cells_of_tree t ≡ cells_of (first_tree t.root t.subtrees no_tree)
 cells_of_one t = ap (λ xs. record { label = t.root; extent = suc (size t.subtrees) } ∷ xs) (sym (append-nil (cells_of t.subtrees)))

@@ -4,7 +4,8 @@ use Rattle.std.specs.Prelude.{◌↔◌}
 use Rattle.qs_lex.specs.declared.token.Token.{Token}
 use Rattle.qs_lex.specs.declared.token.Word.TheVariants.{Graphe, Fin}
 use Rattle.qs_lex.specs.Grammar.{a_node_mark, the_word, opening, plus, stop, sort_of, Form, one, part, ◌·◌, repeated}
-use Rattle.qs_lex.specs.Expecting.{starts, same_sort, NextIsNo, BeginAll, AllWhole, Leads}
+use Rattle.qs_lex.specs.Expecting.{same_sort, NextIsNo}
+use Rattle.qs_lex.specs.working.Expecting.{starts, BeginAll, AllWhole, Leads}
 use Rattle.qs_lex.proofs.Going.{leads_same, leads_on, leads_part, leads_sequence, leads_again}
 use Rattle.qs_tree.specs.Trees.{Tree}
 use Rattle.qs_ruletext.specs.declared.cursor.Halt.{Halt}

@@ -14,7 +14,6 @@ use Rattle.qs_graph.specs.Graphs.{Arc, QGraph}
 use Rattle.qs_pattern.specs.declared.pattern.Head.TheVariants as head
 use Rattle.qs_ruletext.specs.Written.{AreOnOneLine}
 use Rattle.qs_ruletext.proofs.ReadBack.{Goes, turned, space, end_of_line, token}
-use Rattle.qs_ruletext.proofs.HeadsReadBack.{Closes}
 use Rattle.qs_ruletext.proofs.Nesting.{Fits}
 use Rattle.qs_ruletext.proofs.NestingSteps.{keeps, head_keeps, Shows, shows_less, shows_none, shows_one, shows_both, shows_behind, shows_group, Opens, opens_none}
 use Rattle.qs_ruletext.proofs.NestingWritten.{goes_less, none_goes, both_go, one_goes, group_goes, OpensUpTo, head_opens}
@@ -22,6 +21,7 @@ use Rattle.qs_graphtext.specs.WrittenChains.{WrittenChain}
 use Rattle.qs_graphtext.specs.GraphOfChains.{trees_in}
 use Rattle.qs_graphtext.specs.Texts.{line, node_mark, arc_line, graph_text}
 use Rattle.qs_graphtext.specs.Reading.{ReadsPlain, reads_plain, ReadsSubtrees, no_parentheses, nothing_inside, plains_inside, ReadsPlains, reads_plains, ReadsMorePlains, no_more_plains, one_more_plain, ReadsRooted, reads_rooted, ReadsMoreTrees, no_more_trees, one_more_tree, ReadsTrees, reads_trees, ReadsChain, reads_chain, ReadsMoreChains, no_more_chains, one_more_chain, ReadsChains, reads_chains, ReadsGraph, reads_graph}
+use Rattle.qs_graphtext.proofs.TreesReadBack.{below_closes, plain_closes}
 use Rattle.qs_graphtext.proofs.GraphsReadBack.{IsWritable}
 
 -- how many parentheses are open at most in what is written below a label, by how many are within the subtrees: none where there
@@ -106,19 +106,6 @@ graph_shows (reads_graph {t} {u} {rest = rest} starts chains ends) =
 pub graph_read_fits : {names : List (List ℕ)} {text : List ℕ} {ts rest : List Token} {chains : List WrittenChain} → ReadsGraph names text ts chains rest
     → (depth : ℕ) → depth ≤ 1000 → Fits depth ts → (trees_height (trees_in chains) + depth ≤ 1000) × Fits depth rest
 graph_read_fits reads = (graph_shows reads).fits
-
--- a label ends before its subtrees, and before the trees behind it
-below_closes : (kids : Forest) (inside left : List ℕ) → Closes left → Closes (in_parentheses kids inside ++ left)
-below_closes no_tree inside left c = c
-below_closes (first_tree l k r) inside left c = refl
-
-behind_closes : (trees : Forest) (behind left : List ℕ) → Closes left → Closes (behind_comma trees behind ++ left)
-behind_closes no_tree behind left c = c
-behind_closes (first_tree l k r) behind left c = refl
-
-plain_closes : (kids trees : Forest) (inside behind left : List ℕ) → Closes left → Closes ((in_parentheses kids inside ++ behind_comma trees behind) ++ left)
-plain_closes no_tree trees inside behind left c = behind_closes trees behind left c
-plain_closes (first_tree l k r) trees inside behind left c = refl
 
 module _ (text : List ℕ) where
   -- subtrees in parentheses, and trees behind a comma

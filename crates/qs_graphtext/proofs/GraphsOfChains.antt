@@ -5,14 +5,13 @@ use Rattle.std.specs.Result.{IsErrAnd}
 use Rattle.std.specs.List.Sorted.{IsStrictlyIncreasing}
 use Rattle.qs_tree.specs.Lists.{◌∈◌}
 use Rattle.qs_tree.specs.Trees.{Tree}
-use Rattle.qs_tree.proofs.Members.{in_flat_map}
+use Rattle.qs_tree.proofs.Members.{in_flat_map, from_append}
 use Rattle.qs_graph.specs.Graphs.{QGraph, IsNode}
 use Rattle.qs_graph.specs.Chains.{chain, with_chain}
 use Rattle.qs_graph.specs.Validity.{LeadsInside, IsRefused}
 use Rattle.qs_graph.specs.declared.making.GraphEnd.{GraphEnd}
 use Rattle.qs_graph.specs.declared.making.GraphEnd.TheVariants as graph_end
 use Rattle.qs_graph.proofs.Lines.{sources, targets, length-chain}
-use Rattle.qs_graph.proofs.Paths.{append_cases}
 use Rattle.qs_graphtext.specs.WrittenChains.{WrittenChain}
 use Rattle.qs_graphtext.specs.GraphOfChains.{IsWhole, numbers_in, trees_in, dense, with_chains, graph_of, AreFew, AreRefused}
 use Rattle.qs_graphtext.specs.Causes.{end_of}
@@ -30,7 +29,7 @@ arcs_laid number G (c ∷ chains) =
 
 -- a chain between nodes leads from node to node
 inside_chain : (G : QGraph) (a b : ℕ) (ts : List Tree) → LeadsInside G → IsNode G a → IsNode G b → LeadsInside (with_chain G a ts b)
-inside_chain G a b ts h na nb arc i = ⊎_elim old new (append_cases G.arcs (chain a ts (G.nodes + 1) b) arc i)
+inside_chain G a b ts h na nb arc i = ⊎_elim old new (from_append G.arcs (chain a ts (G.nodes + 1) b) arc i)
   where
     old : arc ∈ G.arcs → IsNode (with_chain G a ts b) arc.from × IsNode (with_chain G a ts b) arc.to
     old j = let r = h arc j in ((r.0.0, omega (arith, r.0.1)), (r.1.0, omega (arith, r.1.1)))

@@ -5,7 +5,7 @@ use Rattle.std.proofs.Math.Seq.{drop-nil, drop-append_seam, take-append_seam}
 use Rattle.qs_lex.specs.declared.token.Token.{Token}
 use Rattle.qs_lex.specs.Tokens.{IsTokenOf, AreTokensOf}
 use Rattle.qs_lex.specs.Grammar.{sort_of, Form, one, part, IsWhole, whole_token, whole_part, whole_sequence, whole_this, whole_other, left_out, not_left_out, no_more, one_more, Begins, begins_token}
-use Rattle.qs_lex.specs.Expecting.{BeginAll, AllWhole, NotWithNext, Stops}
+use Rattle.qs_lex.specs.working.Expecting.{BeginAll, AllWhole, NotWithNext, Stops}
 use Rattle.qs_lex.proofs.Expected.{whole_begins}
 use Rattle.qs_tree.specs.Lists.{◌∈◌}
 use Rattle.qs_tree.specs.Trees.{Forest, Tree}

@@ -3,11 +3,13 @@ use Rattle.std.proofs.Common.{◌≡◌, ℕ, ◌+◌, ◌≤◌, false, refl, s
 use Rattle.qs_lex.specs.declared.token.Token.{Token}
 use Rattle.qs_lex.specs.Tokens.{IsLabel}
 use Rattle.qs_lex.specs.Grammar.{a_label, opening, closing, comma, sort_of, IsOf, Form, one, part, ◌·◌, optional, repeated}
-use Rattle.qs_lex.specs.Expecting.{starts, same_sort, NextIsNo, Leads}
+use Rattle.qs_lex.specs.Expecting.{same_sort, NextIsNo}
+use Rattle.qs_lex.specs.working.Expecting.{starts, Leads}
 use Rattle.qs_lex.proofs.Going.{leads_same, leads_on, leads_part, leads_sequence, leads_without, leads_with}
 use Rattle.qs_tree.specs.declared.cell.Label.{Label}
-use Rattle.qs_tree.specs.Trees.{Forest, no_tree, first_tree, Tree, join}
-use Rattle.qs_tree.specs.Cells.{join-no_tree}
+use Rattle.qs_tree.specs.Trees.{Forest, no_tree, first_tree, Tree}
+use Rattle.qs_tree.specs.working.Trees.{join}
+use Rattle.qs_tree.specs.working.Cells.{join-no_tree}
 use Rattle.qs_ruletext.specs.declared.cursor.Halt.{Halt}
 use Rattle.qs_ruletext.specs.declared.cursor.Halt.TheVariants.{Syntax}
 use Rattle.qs_ruletext.specs.Reading.{IsLabelOf}

@@ -2,7 +2,8 @@
 use Rattle.std.proofs.Common.{◌≡◌, ℕ, ◌+◌, ◌≤◌, Bool, false, ◌||◌, refl, List, [], ◌∷◌, ◌++◌, length, arith}
 use Rattle.qs_lex.specs.declared.token.Token.{Token}
 use Rattle.qs_lex.specs.Grammar.{Sort, Form, one, ◌·◌, repeated}
-use Rattle.qs_lex.specs.Expecting.{nullable, first, starts, NextIsNo, Refuse, Leads}
+use Rattle.qs_lex.specs.Expecting.{NextIsNo}
+use Rattle.qs_lex.specs.working.Expecting.{nullable, first, starts, Refuse, Leads}
 use Rattle.qs_lex.proofs.Going.{leads_on, leads_same, leads_sequence, leads_done, leads_again}
 use Rattle.qs_ruletext.specs.declared.cursor.Halt.{Halt}
 use Rattle.qs_ruletext.specs.Rules.{KeepsNames}

@@ -4,7 +4,8 @@ use Rattle.std.specs.Prelude.{IfErr, IsErrAnd}
 use Rattle.std.proofs.lemmas.Result.{err_from_is_err_and}
 use Rattle.qs_lex.specs.declared.token.Token.{Token}
 use Rattle.qs_lex.specs.Grammar.{Sort, opening, Form, one}
-use Rattle.qs_lex.specs.Expecting.{same_sort, starts, NextIsNo, Refuse, may_end, Leads}
+use Rattle.qs_lex.specs.Expecting.{same_sort, NextIsNo}
+use Rattle.qs_lex.specs.working.Expecting.{starts, Refuse, may_end, Leads}
 use Rattle.qs_lex.proofs.Expected.{IsTable}
 use Rattle.qs_lex.proofs.Predictive.{IsPredicted}
 use Rattle.qs_lex.proofs.Predicting.{is_good, predicted}

@@ -14,15 +14,15 @@ use Rattle.qs_ruletext.proofs.HeadsReadBack.{Closes, head_goes}
 use Rattle.qs_graphtext.specs.Reading.{reads_plain, ReadsSubtrees, no_parentheses, plains_inside, ReadsPlains, reads_plains, ReadsMorePlains, no_more_plains, one_more_plain, ReadsRooted, reads_rooted}
 
 -- a label ends before its subtrees, and before the trees behind it
-below_closes : (kids : Forest) (inside left : List ℕ) → Closes left → Closes (in_parentheses kids inside ++ left)
+pub below_closes : (kids : Forest) (inside left : List ℕ) → Closes left → Closes (in_parentheses kids inside ++ left)
 below_closes no_tree inside left c = c
 below_closes (first_tree l k r) inside left c = refl
 
-behind_closes : (trees : Forest) (behind left : List ℕ) → Closes left → Closes (behind_comma trees behind ++ left)
+pub behind_closes : (trees : Forest) (behind left : List ℕ) → Closes left → Closes (behind_comma trees behind ++ left)
 behind_closes no_tree behind left c = c
 behind_closes (first_tree l k r) behind left c = refl
 
-plain_closes : (kids trees : Forest) (inside behind left : List ℕ) → Closes left → Closes ((in_parentheses kids inside ++ behind_comma trees behind) ++ left)
+pub plain_closes : (kids trees : Forest) (inside behind left : List ℕ) → Closes left → Closes ((in_parentheses kids inside ++ behind_comma trees behind) ++ left)
 plain_closes no_tree trees inside behind left c = behind_closes trees behind left c
 plain_closes (first_tree l k r) trees inside behind left c = refl
 

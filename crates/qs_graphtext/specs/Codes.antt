@@ -2,7 +2,7 @@
 use Rattle.std.specs.Prelude.{ℕ, List, refl}
 use Rattle.std.specs.Coded.{Coded, code_by, coded×, coded_list, coded_ℕ}
 use Rattle.qs_tree.specs.Trees.{Tree}
-use Rattle.qs_tree.specs.Cells.{tree_code}
+use Rattle.qs_tree.specs.working.Cells.{tree_code}
 use Rattle.qs_graphtext.specs.WrittenChains.{WrittenChain}
 
 abbrev pub chain_code : Coded WrittenChain

@@ -6,7 +6,8 @@ use Rattle.qs_lex.specs.declared.token.Kind.TheVariants.{Node}
 use Rattle.qs_lex.specs.declared.token.Word.TheVariants.{Graphe}
 use Rattle.qs_lex.specs.Tokens.{IsTokenOf}
 use Rattle.qs_lex.specs.Grammar.{Sort, a_label, a_node_mark, the_word, opening, closing, comma, IsOf, Form, one, part, ◌·◌, optional, repeated}
-use Rattle.qs_lex.specs.Expecting.{same_sort, Refuse, Leads, Stops}
+use Rattle.qs_lex.specs.Expecting.{same_sort}
+use Rattle.qs_lex.specs.working.Expecting.{Refuse, Leads, Stops}
 use Rattle.qs_ruletext.specs.declared.cursor.Halt.{Halt}
 use Rattle.qs_ruletext.specs.declared.cursor.Halt.TheVariants.{Syntax, Memory}
 use Rattle.qs_ruletext.specs.Rules.{KeepsNames}

@@ -26,7 +26,9 @@ pub fn lay(alloc: Global, nodes: &[u32], chains: Vec<Chain>) -> Result<Laid, All
     requires rises { IsStrictlyIncreasing nodes.now }
     requires whole { (chain : WrittenChain) → chain ∈ chains.items → IsWhole chain }
     requires few { length nodes.now + length (trees_in chains.items) < 4294967295 }
-    ensures { IfOk result (λ l. record { nodes = l.nodes; arcs = l.edges.items } ≡ with_chains (λ n. length (filter (λ m. nat_le m n) nodes.now)) (record { nodes = length nodes.now; arcs = [] }) chains.items) }
+    ensures { IfOk result (λ l. record { nodes = l.nodes; arcs = l.edges.items }
+        ≡ with_chains (λ n. length (filter (λ m. nat_le m n) nodes.now)) (record { nodes = length nodes.now; arcs = [] })
+        chains.items) }
 {
     let mut laid = Laid {
         nodes: nodes.len() as u32,
@@ -35,17 +37,18 @@ pub fn lay(alloc: Global, nodes: &[u32], chains: Vec<Chain>) -> Result<Laid, All
     for chain in chains {
         let from = dense(nodes, chain.from);
         let to = dense(nodes, chain.to);
-        laid.add(from, to, chain.trees)?;
+        laid.add(alloc, from, to, chain.trees)?;
     }
     Ok(laid)
 }
 
 impl Laid {
     // Adds a chain of the trees, through new nodes.
-    fn add(&mut self, from: u32, to: u32, trees: Vec<Tree>) -> Result<(), AllocError>
+    fn add(&mut self, alloc: Global, from: u32, to: u32, trees: Vec<Tree>) -> Result<(), AllocError>
         requires some { 0 < length trees.items }
         requires few { self.old.nodes + length trees.items < 4294967295 }
-        ensures { OnOk result (record { nodes = self.new.nodes; arcs = self.new.edges.items } ≡ with_chain (record { nodes = self.old.nodes; arcs = self.old.edges.items }) from trees.items to) }
+        ensures { OnOk result (record { nodes = self.new.nodes; arcs = self.new.edges.items }
+            ≡ with_chain (record { nodes = self.old.nodes; arcs = self.old.edges.items }) from trees.items to) }
     {
         let mut left = trees.len();
         let inner = left as u32 - 1;
@@ -54,11 +57,7 @@ impl Laid {
         for tree in trees {
             left -= 1;
             let end = if left == 0 { to } else { next };
-            self.edges.push(Edge {
-                from: at,
-                to: end,
-                tree,
-            })?;
+            self.edges.push(Edge::new(alloc, at, end, tree)?)?;
             at = end;
             next += 1;
         }

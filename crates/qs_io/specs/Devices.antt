@@ -12,10 +12,6 @@ HasRisen before now = min (before + 1) (2 ^ 64 - 1) ≤ now
 abbrev pub TakesBytes : Option (List ℕ) → Option (List ℕ) → ℕ → Type 0
 TakesBytes old new n = (bytes : List ℕ) × (old ≡ prepend_known bytes new) × (length bytes ≡ n)
 
--- a prefix of these bytes was appended to what was written to a sink
-abbrev pub AppendsPrefix : Option (List ℕ) → Option (List ℕ) → List ℕ → Type 0
-AppendsPrefix old new bytes = (n : ℕ) × (n ≤ length bytes) × (new ≡ append_known old (take n bytes))
-
 -- a proper prefix of them was: at least the last byte is missing
 abbrev pub AppendsProperPrefix : Option (List ℕ) → Option (List ℕ) → List ℕ → Type 0
 AppendsProperPrefix old new bytes = (n : ℕ) × (n < length bytes) × (new ≡ append_known old (take n bytes))

@@ -31,6 +31,7 @@ pub record SinkState : Type 0 where
 abbrev pub calls_after : ℕ → ℕ
 calls_after calls = min (calls + 1) (2 ^ 64 - 1)
 
--- the next call is one of those that fail; calls are numbered from 1, and none has a number where their count stands still
+-- the next call is one of those that fail; calls are numbered from 1,
+-- and none has a number where their count stands still
 abbrev pub FailsNext : ℕ → List ℕ → Type 0
 FailsNext calls failing = (calls < 2 ^ 64 - 1) × Contains failing (calls + 1)

@@ -3,3 +3,4 @@ pub mod Limits
 pub mod InMemory
 pub mod Standard
 pub mod TracedSinks
+pub mod working

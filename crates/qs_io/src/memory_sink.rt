@@ -1,5 +1,6 @@
 // A sink that keeps its bytes in memory.
-ghost use Rattle.std.specs.Prelude.{◌≡◌, ◌⊎◌, ◌<◌, ◌≤◌, ◌+◌, ◌-◌, ◌^◌, ◌++◌, ◌↔◌, [], IsErr, IfOk, OnErr, Some, length, min, take};
+ghost use Rattle.std.specs.Prelude.{◌≡◌, ◌⊎◌, ◌<◌, ◌≤◌, ◌+◌, ◌-◌, ◌^◌, ◌++◌, ◌↔◌, [], IsErr, IfOk, OnErr, Some, length};
+ghost use Rattle.std.specs.Prelude.{min, take};
 ghost use Rattle.std.specs.List.Sorted.{IsStrictlyIncreasing};
 ghost use Rattle.qs_io.specs.InMemory.{FailsNext, calls_after};
 
@@ -28,7 +29,14 @@ impl Model for MemSink {
 
     ghost Value = { SinkState };
 
-    ghost view = { λ s. record { written = s.bytes.items; room = s.room; piece = s.piece; failing = s.failing.items; calls = s.calls; faults = s.faults } };
+    ghost view = { λ s. record {
+      written = s.bytes.items;
+      room = s.room;
+      piece = s.piece;
+      failing = s.failing.items;
+      calls = s.calls;
+      faults = s.faults;
+    } };
 
     ghost invariant = { λ s. (length s.bytes.items + s.room ≤ vec_capacity s.bytes) × (0 < s.piece) };
 }
@@ -46,7 +54,8 @@ impl MemSink {
     ) -> Result<MemSink, Memory>
         requires piece { 0 < piece }
         requires failing { IsStrictlyIncreasing failing.items }
-        ensures { IfOk result (λ sink. sink ≡ record { written = []; room = room; piece = piece; failing = failing.items; calls = 0; faults = 0 }) }
+        ensures { IfOk result (λ sink. sink
+            ≡ record { written = []; room = room; piece = piece; failing = failing.items; calls = 0; faults = 0 }) }
     {
         let bytes = Vec::with_capacity(alloc, room)?;
         Ok(MemSink {
@@ -83,10 +92,15 @@ impl Sink for MemSink {
         requires { 0 < length piece.now }
 
         ensures fails { IsErr result ↔ (FailsNext self.old.calls self.old.failing ⊎ (self.old.room ≡ 0)) }
-        ensures err { OnErr result (self.new ≡ record self.old { calls = calls_after self.old.calls; faults = min (self.old.faults + 1) (2 ^ 64 - 1) }) }
+        ensures err { OnErr result (self.new
+            ≡ record self.old { calls = calls_after self.old.calls; faults = min (self.old.faults + 1) (2 ^ 64 - 1) }) }
 
         ensures amount { IfOk result (λ n. n ≡ min (length piece.now) (min self.old.piece self.old.room)) }
-        ensures ok { IfOk result (λ n. self.new ≡ record self.old { written = self.old.written ++ take n piece.now; room = self.old.room - n; calls = calls_after self.old.calls }) }
+        ensures ok { IfOk result (λ n. self.new ≡ record self.old {
+          written = self.old.written ++ take n piece.now;
+          room = self.old.room - n;
+          calls = calls_after self.old.calls;
+        }) }
         ensures some { IfOk result (λ n. 0 < n) }
         ensures count { self.old.faults ≤ self.new.faults }
     {

@@ -1,5 +1,6 @@
 // Sources over bytes that lie in memory.
-ghost use Rattle.std.specs.Prelude.{◌≡◌, ◌<◌, ◌≤◌, ◌+◌, ◌++◌, ◌↔◌, [], IsErr, IsOkAnd, IfOk, OnErr, Some, drop, length, min, take};
+ghost use Rattle.std.specs.Prelude.{◌≡◌, ◌<◌, ◌≤◌, ◌+◌, ◌++◌, ◌↔◌, [], IsErr, IsOkAnd, IfOk, OnErr, Some, drop, length};
+ghost use Rattle.std.specs.Prelude.{min, take};
 ghost use Rattle.std.specs.List.Sorted.{IsStrictlyIncreasing};
 ghost use Rattle.qs_io.specs.InMemory.{FailsNext, calls_after};
 
@@ -95,7 +96,8 @@ impl Source for MemSource {
         requires { 0 < length room.old }
 
         ensures fails { IsErr result ↔ FailsNext self.old.calls self.old.failing }
-        ensures err { OnErr result (self.new ≡ record self.old { calls = calls_after self.old.calls; faults = self.old.faults + 1 }) }
+        ensures err { OnErr result (self.new
+            ≡ record self.old { calls = calls_after self.old.calls; faults = self.old.faults + 1 }) }
 
         ensures amount { IfOk result (λ n. n ≡ min (length room.new) (min self.old.piece (length self.old.left))) }
         ensures bytes { IfOk result (λ n. take n room.new ≡ take n self.old.left) }

@@ -111,7 +111,8 @@ impl<W: Write> Sink for StdSink<W> {
 
         ensures some { IfOk result (λ n. 0 < n) }
         ensures bound { IfOk result (λ n. n ≤ length piece.now) }
-        ensures writer { IfOk result (λ n. Appends (W.contents self.old.device) (W.contents self.new.device) (take n piece.now)) }
+        ensures writer { IfOk result
+            (λ n. Appends (W.contents self.old.device) (W.contents self.new.device) (take n piece.now)) }
 
         ensures ok { OnOk result (self.new.faults ≡ self.old.faults) }
         ensures err { OnErr result (self.new.faults ≡ min (self.old.faults + 1) (2 ^ 64 - 1)) }

@@ -59,7 +59,8 @@ pub fn read_all<S: Source>(alloc: Global, source: &mut S) -> Result<Vec<u8>, Rea
     ensures ended { OnOk result (S.has_ended source.new) }
 
     ensures fault { IsErrOf result ReadEnd.Fault → HasRisen (S.faults source.old) (S.faults source.new) }
-    // Whatever the answer, at most one byte more than a text may have is taken, and a text is too long exactly where it is.
+    // Whatever the answer, at most one byte more than a text may have is taken,
+    // and a text is too long exactly where it is.
     ensures taken { (n : ℕ) × TakesBytes (S.left source.old) (S.left source.new) n × (n ≤ most_text_bytes + 1)
         × (IsErrOf result ReadEnd.TooLong ↔ (n ≡ most_text_bytes + 1)) }
 

@@ -3,9 +3,10 @@ use Rattle.std.proofs.Common.{◌≡◌, ℕ, ◌+◌, ◌<◌, Bool, true, fals
 use Rattle.std.specs.Prelude.{take_while, slice_index}
 use Rattle.std.specs.List.{prefix_len}
 use Rattle.std.specs.Char.{is_ascii_digit}
-use Rattle.qs_lex.specs.Characters.{is_label, is_variable_letter, is_capital_or_digit}
+use Rattle.qs_lex.specs.Characters.{is_label, is_variable_letter}
+use Rattle.qs_lex.specs.working.Characters.{is_capital_or_digit}
 use Rattle.qs_lex.specs.Refusals.{cause_at}
-use Rattle.qs_lex.specs.Scan.{Found, scan, label_at, variable_of, with_digits, numbered, number_after, quote_len, quoted_of, mark_at, named, node_of, word_of, punctuation}
+use Rattle.qs_lex.specs.working.Scan.{Found, scan, label_at, variable_of, with_digits, numbered, number_after, quote_len, quoted_of, mark_at, named, node_of, word_of, punctuation}
 use Rattle.qs_lex.specs.declared.token.Word.{Word}
 use Rattle.qs_lex.specs.declared.token.Kind.TheVariants.{Bare, Equals}
 use Rattle.qs_lex.specs.declared.refusal.Cause.{Cause}

@@ -6,7 +6,8 @@ use Rattle.std.proofs.lemmas.Bool.{false≢true}
 use Rattle.qs_lex.specs.declared.token.Token.{Token}
 use Rattle.qs_lex.specs.declared.token.Word.TheVariants.{Systeme, Graphe, Fin, Dans, Hors, Et, Ou, Non}
 use Rattle.qs_lex.specs.Grammar.{Sort, a_label, a_label_variable, a_tree_variable, a_forest_variable, a_node_mark, the_word, opening, closing, comma, plus, slash, equals, stop, sort_of, IsOf, Form, one, part, ◌·◌, ◌∣◌, optional, repeated, Grammar, IsWhole, whole_token, whole_part, whole_sequence, whole_this, whole_other, left_out, not_left_out, no_more, one_more}
-use Rattle.qs_lex.specs.Expecting.{number_of, same_sort, nullable, first, starts, may_end, IsPredictive, NextIsNo, Leads, Stops}
+use Rattle.qs_lex.specs.Expecting.{number_of, same_sort, NextIsNo}
+use Rattle.qs_lex.specs.working.Expecting.{nullable, first, starts, may_end, IsPredictive, Leads, Stops}
 use Rattle.qs_lex.proofs.Expected.{Fronts}
 use Rattle.qs_lex.proofs.Going.{leads_on, leads_token, leads_part, leads_sequence, leads_this, leads_other, leads_without, leads_done, stops_here, stops_behind}
 use Rattle.qs_lex.proofs.Predictive.{IsPredicted, next_apart, next_neither, Refused, refused_first, refused_last, refused_this, refused_other, refused_member, refused_again, refused_part, leads_into, leads_round}

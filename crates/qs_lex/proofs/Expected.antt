@@ -6,7 +6,8 @@ use Rattle.std.proofs.lemmas.Bool.{false≢true}
 use Rattle.std.proofs.lemmas.Bool.Decides.{nat_tests}
 use Rattle.qs_lex.specs.declared.token.Token.{Token}
 use Rattle.qs_lex.specs.Grammar.{Sort, sort_of, Form, one, ◌·◌, ◌∣◌, optional, repeated, Grammar, IsWhole, whole_token, whole_part, whole_sequence, whole_this, whole_other, left_out, not_left_out, no_more, one_more, Begins, nothing_yet, begins_token, begins_part, begins_first, begins_behind, begins_this, begins_other, begins_optional, begins_next, begins_later}
-use Rattle.qs_lex.specs.Expecting.{same_sort, nullable, first, starts, BeginAll, AllWhole, may_end}
+use Rattle.qs_lex.specs.Expecting.{same_sort}
+use Rattle.qs_lex.specs.working.Expecting.{nullable, first, starts, BeginAll, AllWhole, may_end}
 
 pub same_itself : (s k : Sort) → k ≡ s → same_sort s k ≡ true
 same_itself s k e = rw e (grind (arith, nat_tests))

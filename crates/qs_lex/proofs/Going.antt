@@ -3,7 +3,8 @@ use Rattle.std.proofs.Common.{◌≡◌, ℕ, Bool, false, refl, sym, ◌∙◌,
 use Rattle.std.proofs.lemmas.Bool.{false≢true}
 use Rattle.qs_lex.specs.declared.token.Token.{Token}
 use Rattle.qs_lex.specs.Grammar.{Sort, IsOf, Form, one, part, ◌·◌, ◌∣◌, optional, repeated, Grammar, IsWhole, whole_token, whole_part, whole_sequence, whole_this, whole_other, left_out, not_left_out, no_more, one_more, Begins, nothing_yet, begins_token, begins_part, begins_first, begins_behind, begins_this, begins_other, begins_optional, begins_next, begins_later}
-use Rattle.qs_lex.specs.Expecting.{nullable, first, starts, NextIsNo, BeginAll, AllWhole, may_end, Leads, NotWithNext, Stops}
+use Rattle.qs_lex.specs.Expecting.{NextIsNo}
+use Rattle.qs_lex.specs.working.Expecting.{nullable, first, starts, BeginAll, AllWhole, may_end, Leads, NotWithNext, Stops}
 use Rattle.qs_lex.proofs.Expected.{IsTable, Fronts, FrontsOrNone, whole_front, begin_front, begin_all_front, begin_all-nil, all_whole_begins, all_whole-nil}
 
 -- what is known of the next token is known of the front of a list

@@ -5,7 +5,7 @@ use Rattle.std.proofs.lemmas.List.{get_or-drop, take_rest}
 use Rattle.std.proofs.lemmas.Str.{IsCharBoundary-start}
 use Rattle.qs_lex.specs.Tokens.{Reads, blank_len, next_place, StandsIn}
 use Rattle.qs_lex.specs.Refusals.{IsFaulty, IsFirstFault, cause_at}
-use Rattle.qs_lex.specs.Scan.{scan}
+use Rattle.qs_lex.specs.working.Scan.{scan}
 use Rattle.qs_lex.specs.declared.token.Token.{Token}
 use Rattle.qs_lex.specs.declared.refusal.Cause.{Cause}
 use Rattle.qs_lex.proofs.Standing.{none_there, reads_more}

@@ -11,6 +11,7 @@ pub mod Borders
 pub mod Columns
 pub mod Lexed
 pub mod Readings
+pub mod Refusing
 pub mod OpenParentheses
 pub mod Doubling
 pub mod Encodings

@@ -4,7 +4,7 @@ use Rattle.std.specs.Prelude.{◌⊎◌}
 use Rattle.std.proofs.lemmas.Bool.{false≢true}
 use Rattle.qs_lex.specs.declared.token.Token.{Token}
 use Rattle.qs_lex.specs.Grammar.{Sort, Form, repeated, Grammar, IsWhole, no_more, one_more, Begins}
-use Rattle.qs_lex.specs.Expecting.{nullable, goes_on, IsPredictive}
+use Rattle.qs_lex.specs.working.Expecting.{nullable, goes_on, IsPredictive}
 use Rattle.qs_lex.proofs.Expected.{whole_front, whole_begins}
 use Rattle.qs_lex.proofs.Predictive.{IsPredicted}
 use Rattle.qs_lex.proofs.Stopping.{front_of, closed_whole}

@@ -3,7 +3,7 @@ use Rattle.std.proofs.Common.{◌≡◌, Bool, true, false, ◌||◌, ◌&&◌, 
 use Rattle.std.proofs.lemmas.Bool.{false≢true}
 use Rattle.qs_lex.specs.declared.token.Word.TheVariants.{Systeme, Graphe, Fin, Dans, Hors, Et, Ou, Non}
 use Rattle.qs_lex.specs.Grammar.{Sort, a_label, a_label_variable, a_tree_variable, a_forest_variable, a_node_mark, the_word, opening, closing, comma, plus, slash, equals, stop, Form, one, part, ◌·◌, ◌∣◌, optional, repeated, Grammar}
-use Rattle.qs_lex.specs.Expecting.{nullable, first, goes_on, Apart, IsPredictive}
+use Rattle.qs_lex.specs.working.Expecting.{nullable, first, goes_on, Apart, IsPredictive}
 use Rattle.qs_lex.proofs.Predictive.{IsPredicted}
 
 and_first : (a b : Bool) → (a && b) ≡ true → a ≡ true

@@ -4,7 +4,8 @@ use Rattle.std.proofs.Common.{◌≡◌, Bool, true, false, ◌||◌, cond, refl
 use Rattle.std.proofs.lemmas.Bool.{false≢true}
 use Rattle.qs_lex.specs.declared.token.Token.{Token}
 use Rattle.qs_lex.specs.Grammar.{Sort, sort_of, Form, part, ◌·◌, ◌∣◌, optional, repeated, Grammar, IsWhole, whole_token, whole_part, whole_sequence, whole_this, whole_other, left_out, not_left_out, no_more, one_more}
-use Rattle.qs_lex.specs.Expecting.{nullable, first, starts, goes_on, Apart, IsPredictive, NextIsNo, Leads}
+use Rattle.qs_lex.specs.Expecting.{NextIsNo}
+use Rattle.qs_lex.specs.working.Expecting.{nullable, first, starts, goes_on, Apart, IsPredictive, Leads}
 use Rattle.qs_lex.proofs.Expected.{IsTable, Fronts, whole_front}
 use Rattle.qs_lex.proofs.Going.{leads_on, leads_token, leads_part, leads_sequence, leads_this, leads_other, leads_without, leads_with, leads_done, leads_again}
 

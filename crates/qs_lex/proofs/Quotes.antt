@@ -7,7 +7,7 @@ use Rattle.std.proofs.lemmas.List.{append_cancel_right}
 use Rattle.qs_lex.specs.Spelling.{doubled, between_quotes, IsLabelText}
 use Rattle.qs_lex.specs.declared.token.Kind.{Kind}
 use Rattle.qs_lex.specs.declared.token.Kind.TheVariants.{Bare, Quoted, Variable, Node, Word as a_word, Opening, Closing, Comma, Plus, Slash, Equals, Stop}
-use Rattle.qs_lex.specs.Scan.{quote_len, behind_quote}
+use Rattle.qs_lex.specs.working.Scan.{quote_len, behind_quote}
 use Rattle.qs_lex.proofs.Choices.{choice}
 
 -- how many bytes are left, behind a quote that may close or not

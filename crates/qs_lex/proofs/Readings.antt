@@ -3,9 +3,7 @@ use Rattle.std.proofs.Common.{◌≡◌, ℕ, zero, suc, ◌<◌, List, [], ◌�
 use Rattle.std.specs.Prelude.{IsCharBoundary, slice_index, slice_get}
 use Rattle.std.proofs.lemmas.Str.{IsCharBoundary-start}
 use Rattle.qs_lex.specs.Tokens.{Reads, StandsIn, AreTokensOf, AreSpansFrom, IsTokenOf}
-use Rattle.qs_lex.specs.Refusals.{IsFirstFault, IsRefusalOf, cause_at}
-use Rattle.qs_lex.specs.Places.{line_of, column_of}
-use Rattle.qs_lex.specs.declared.refusal.Refusal.{Refusal}
+use Rattle.qs_lex.specs.Refusals.{IsFirstFault, cause_at}
 use Rattle.qs_lex.specs.declared.token.Token.{Token}
 use Rattle.qs_lex.specs.declared.refusal.Cause.{Cause}
 use Rattle.qs_lex.proofs.Standing.{one_token, has_byte}
@@ -42,13 +40,6 @@ pub one_fault : {text : List ℕ} {p q : ℕ} {c d : Cause} → IsFirstFault tex
 one_fault {text} {p} {q} {c} {d} f g =
     let same = one_reading text 0 f.before g.before p q f.faulty.no_token g.faulty.no_token f.reached g.reached in
     (same.1, f.of_cause ∙ ap (λ place. cause_at (slice_index text place)) same.1 ∙ sym g.of_cause)
-
-pub one_refusal : {text : List ℕ} {r s : Refusal} → IsRefusalOf text r → IsRefusalOf text s → r ≡ s
-one_refusal {text} {r} {s} a b =
-    let same = one_fault a.fault b.fault in
-    let line : r.line ≡ s.line = a.line ∙ ap (line_of text) same.0 ∙ sym b.line in
-    let column : r.column ≡ s.column = a.column ∙ ap (column_of text) same.0 ∙ sym b.column in
-    λ i. record { line = line i; column = column i; cause = same.1 i }
 
 -- spans ascend and lie between characters
 spans : (text : List ℕ) (at : ℕ) (ts : List Token) (next : ℕ) → IsUtf8 text → IsCharBoundary text at → Reads text at ts next → AreSpansFrom text at ts

@@ -5,7 +5,7 @@ use Rattle.std.proofs.lemmas.List.{take_at, drop_at, drop-drop}
 use Rattle.qs_lex.specs.Spelling.{Spells, EndsBefore}
 use Rattle.qs_lex.specs.Tokens.{StandsIn, Reads, next_place}
 use Rattle.qs_lex.specs.Refusals.{IsFaulty}
-use Rattle.qs_lex.specs.Scan.{Found, scan}
+use Rattle.qs_lex.specs.working.Scan.{Found, scan}
 use Rattle.qs_lex.specs.declared.token.Token.{Token}
 use Rattle.qs_lex.specs.declared.token.Kind.{Kind}
 use Rattle.qs_lex.specs.declared.token.Kind.TheVariants.{Bare, Quoted, Variable, Node, Word as a_word, Opening, Closing, Comma, Plus, Slash, Equals, Stop}

@@ -4,7 +4,8 @@ use Rattle.std.proofs.Common.{◌≡◌, ◌≢◌, Bool, false, refl, sym, ◌�
 use Rattle.std.proofs.lemmas.Bool.{false≢true}
 use Rattle.qs_lex.specs.declared.token.Token.{Token}
 use Rattle.qs_lex.specs.Grammar.{Sort, Form, repeated, Grammar, IsWhole, whole_token, whole_part, whole_sequence, whole_this, whole_other, left_out, not_left_out, no_more, one_more, Begins}
-use Rattle.qs_lex.specs.Expecting.{nullable, first, starts, goes_on, Apart, IsPredictive, NextIsNo, BeginAll, AllWhole, Leads, NotWithNext, Stops}
+use Rattle.qs_lex.specs.Expecting.{NextIsNo}
+use Rattle.qs_lex.specs.working.Expecting.{nullable, first, starts, goes_on, Apart, IsPredictive, BeginAll, AllWhole, Leads, NotWithNext, Stops}
 use Rattle.qs_lex.proofs.Expected.{Fronts, FrontsOrNone, whole_front, begin_front, whole_begins}
 use Rattle.qs_lex.proofs.Going.{leads_same, leads_on, leads_again, stops_behind}
 use Rattle.qs_lex.proofs.Predictive.{IsPredicted, some_front, next_apart, whole_leads}

@@ -5,7 +5,7 @@ use Rattle.std.proofs.lemmas.Bool.{cases_lt}
 use Rattle.qs_lex.specs.Characters.{is_space}
 use Rattle.qs_lex.specs.Tokens.{blank_len, comment_len, next_place, StandsIn, Reads, AreTokensOf}
 use Rattle.qs_lex.specs.Refusals.{IsFaulty, IsFirstFault, cause_at}
-use Rattle.qs_lex.specs.Scan.{Found, scan}
+use Rattle.qs_lex.specs.working.Scan.{Found, scan}
 use Rattle.qs_lex.specs.declared.token.Token.{Token}
 use Rattle.qs_lex.specs.declared.refusal.Cause.{Cause}
 use Rattle.qs_lex.proofs.Standing.{stands, has_byte, none_there}

@@ -1,7 +1,7 @@
 -- The characters that the table of tokens speaks of, and the classes of them.
 use Rattle.std.specs.Prelude.{◌≡◌, ℕ, Bool, ◌||◌, ◌==◌, nat_le, List, [], ◌∷◌, true, IsFalse, codes}
 use Rattle.std.specs.List.{list_any}
-use Rattle.std.specs.Char.{is_ascii_alphanumeric, is_ascii_digit, is_ascii_uppercase}
+use Rattle.std.specs.Char.{is_ascii_alphanumeric}
 use Rattle.std.specs.Int.{is_in_range}
 
 -- the end of a line
@@ -35,10 +35,6 @@ is_label b = is_ascii_alphanumeric b || b == 95 || b == 39 || nat_le 128 b
 -- white space: a space, a tab, a line feed or a carriage return
 abbrev pub is_space : ℕ → Bool
 is_space b = b == 32 || b == 9 || b == line_feed || b == carriage_return
-
--- what a word and a node mark are written in: an ASCII capital or an ASCII digit
-abbrev pub is_capital_or_digit : ℕ → Bool
-is_capital_or_digit b = is_ascii_uppercase b || is_ascii_digit b
 
 -- the letter of a variable: one of A to F, of I to N or of U to Z
 abbrev pub is_variable_letter : ℕ → Bool

@@ -4,10 +4,11 @@ use Rattle.std.specs.Int.{is_in_range}
 use Rattle.qs_lex.specs.declared.token.Word.{Word}
 use Rattle.qs_lex.specs.declared.token.Token.{Token}
 use Rattle.qs_lex.specs.declared.token.Kind.{Kind}
-use Rattle.qs_lex.specs.declared.token.Kind.TheVariants.{Bare, Quoted, Variable, Node, Word as a_word, Opening, Closing, Comma, Plus, Slash, Equals, Stop}
+use Rattle.qs_lex.specs.declared.token.Kind.TheVariants.{Bare, Quoted, Variable, Node, Word as a_word, Opening, Closing}
+use Rattle.qs_lex.specs.declared.token.Kind.TheVariants.{Comma, Plus, Slash, Equals, Stop}
 
--- what a grammar asks of a token: that it is a label, bare or quoted; a variable for a label, for a tree or for a forest;
--- a node mark; a given word; or a given sign
+-- what a grammar asks of a token: that it is a label, bare or quoted; a variable for a label, for a tree or for a
+-- forest; a node mark; a given word; or a given sign
 pub data Sort : Type 0 where
   a_label : Sort
   a_label_variable : Sort
@@ -25,7 +26,8 @@ pub data Sort : Type 0 where
 
 -- the letter of a variable tells what it is for: A to F a label, I to N a tree, and the others, U to Z, a forest
 abbrev pub variable_sort : ℕ → Sort
-variable_sort letter = if is_in_range 65 70 letter then a_label_variable else (if is_in_range 73 78 letter then a_tree_variable else a_forest_variable)
+variable_sort letter = if is_in_range 65 70 letter then a_label_variable
+    else (if is_in_range 73 78 letter then a_tree_variable else a_forest_variable)
 
 -- each token is of one sort
 abbrev pub sort_of : Kind → Sort
@@ -64,21 +66,26 @@ Grammar Part = Part → Form Part
 -- `IsWhole line form tokens rest`: the tokens before the rest are the form, whole
 pub data IsWhole {Part : Type 0} (line : Grammar Part) : Form Part → List Token → List Token → Type 0 where
   whole_token : {sort : Sort} {t : Token} {rest : List Token} → IsOf sort t → IsWhole line (one sort) (t ∷ rest) rest
-  whole_part : {name : Part} {ts rest : List Token} → IsWhole line (line name) ts rest → IsWhole line (part name) ts rest
+  whole_part : {name : Part} {ts rest : List Token} → IsWhole line (line name) ts rest
+      → IsWhole line (part name) ts rest
   whole_sequence : {first behind : Form Part} {ts middle rest : List Token}
       → IsWhole line first ts middle → IsWhole line behind middle rest → IsWhole line (first · behind) ts rest
-  whole_this : {this other : Form Part} {ts rest : List Token} → IsWhole line this ts rest → IsWhole line (this ∣ other) ts rest
-  whole_other : {this other : Form Part} {ts rest : List Token} → IsWhole line other ts rest → IsWhole line (this ∣ other) ts rest
+  whole_this : {this other : Form Part} {ts rest : List Token} → IsWhole line this ts rest
+      → IsWhole line (this ∣ other) ts rest
+  whole_other : {this other : Form Part} {ts rest : List Token} → IsWhole line other ts rest
+      → IsWhole line (this ∣ other) ts rest
   left_out : {member : Form Part} {ts : List Token} → IsWhole line (optional member) ts ts
-  not_left_out : {member : Form Part} {ts rest : List Token} → IsWhole line member ts rest → IsWhole line (optional member) ts rest
+  not_left_out : {member : Form Part} {ts rest : List Token} → IsWhole line member ts rest
+      → IsWhole line (optional member) ts rest
   no_more : {member : Form Part} {ts : List Token} → IsWhole line (repeated member) ts ts
   one_more : {member : Form Part} {ts middle rest : List Token}
-      → IsWhole line member ts middle → IsWhole line (repeated member) middle rest → IsWhole line (repeated member) ts rest
+      → IsWhole line member ts middle → IsWhole line (repeated member) middle rest
+      → IsWhole line (repeated member) ts rest
 
--- `Begins line form tokens`: the tokens begin the form. No token begins each form. One token begins itself. Tokens begin
--- a sequence where they begin its first member, or are that member whole followed by tokens that begin the rest; one of
--- two forms where they begin the one or the other; and what may be left out or repeated where they are some of its allowed
--- repetitions, each whole, possibly none, followed by tokens that begin one more that is allowed.
+-- `Begins line form tokens`: the tokens begin the form. No token begins each form. One token begins itself. Tokens
+-- begin a sequence where they begin its first member, or are that member whole followed by tokens that begin the rest;
+-- one of two forms where they begin the one or the other; and what may be left out or repeated where they are some of
+-- its allowed repetitions, each whole, possibly none, followed by tokens that begin one more that is allowed.
 pub data Begins {Part : Type 0} (line : Grammar Part) : Form Part → List Token → Type 0 where
   nothing_yet : {form : Form Part} → Begins line form []
   begins_token : {sort : Sort} {t : Token} → IsOf sort t → Begins line (one sort) (t ∷ [])

@@ -1,12 +1,14 @@
 -- How the tokens are written, and what may follow them. A row of the table of tokens is one line of `Spells` and one
 -- of `EndsBefore`.
-use Rattle.std.specs.Prelude.{◌≡◌, ℕ, zero, suc, ◌<◌, ◌≤◌, ◌||◌, ◌==◌, List, [], ◌∷◌, ◌++◌, length, flat_map, if◌then◌else◌, codes, decimal, not, true}
+use Rattle.std.specs.Prelude.{◌≡◌, ℕ, zero, suc, ◌<◌, ◌≤◌, ◌||◌, ◌==◌, List, [], ◌∷◌, ◌++◌, length, flat_map}
+use Rattle.std.specs.Prelude.{if◌then◌else◌, codes, decimal, not, true}
 use Rattle.std.specs.Char.{is_ascii_digit}
 use Rattle.qs_lex.specs.Characters.{quote, star, dash, is_label, is_variable_letter, ends_line, BeginsWithNo, Each}
 use Rattle.qs_lex.specs.declared.token.Word.{Word}
 use Rattle.qs_lex.specs.declared.token.Word.TheVariants.{Systeme, Graphe, Fin, Dans, Hors, Et, Ou, Non}
 use Rattle.qs_lex.specs.declared.token.Kind.{Kind}
-use Rattle.qs_lex.specs.declared.token.Kind.TheVariants.{Bare, Quoted, Variable, Node, Word as a_word, Opening, Closing, Comma, Plus, Slash, Equals, Stop}
+use Rattle.qs_lex.specs.declared.token.Kind.TheVariants.{Bare, Quoted, Variable, Node, Word as a_word, Opening, Closing}
+use Rattle.qs_lex.specs.declared.token.Kind.TheVariants.{Comma, Plus, Slash, Equals, Stop}
 
 -- the name of a word, without its dashes
 abbrev pub name_of : Word → List ℕ
@@ -40,7 +42,8 @@ suffix_of (suc n) = decimal (suc n)
 abbrev pub Spells : Kind → List ℕ → Type 0
 Spells Bare bytes = (0 < length bytes) × Each is_label bytes
 Spells Quoted bytes = (text : List ℕ) × Each (λ b. not (ends_line b)) text × (bytes ≡ between_quotes text)
-Spells (Variable letter number) bytes = (is_variable_letter letter ≡ true) × (number ≤ 99) × (bytes ≡ letter ∷ star ∷ suffix_of number)
+Spells (Variable letter number) bytes =
+    (is_variable_letter letter ≡ true) × (number ≤ 99) × (bytes ≡ letter ∷ star ∷ suffix_of number)
 Spells (Node number) bytes = (1 ≤ number) × (number ≤ 999999999) × (bytes ≡ between_dashes (decimal number))
 Spells (a_word word) bytes = bytes ≡ between_dashes (name_of word)
 Spells Opening bytes = bytes ≡ codes "("

@@ -1,12 +1,13 @@
 -- The tokens of a text.
-use Rattle.std.specs.Prelude.{◌≡◌, ℕ, suc, ◌+◌, ◌<◌, ◌≤◌, ◌==◌, List, [], ◌∷◌, length, drop, slice_range, slice_get, Some, ◌⊎◌, if◌then◌else◌, IsCharBoundary}
+use Rattle.std.specs.Prelude.{◌≡◌, ℕ, suc, ◌+◌, ◌<◌, ◌≤◌, ◌==◌, List, [], ◌∷◌, length, drop, slice_range, slice_get}
+use Rattle.std.specs.Prelude.{Some, ◌⊎◌, if◌then◌else◌, IsCharBoundary}
 use Rattle.qs_lex.specs.Characters.{line_feed, number_sign, is_space}
 use Rattle.qs_lex.specs.Spelling.{Spells, EndsBefore, IsLabelText}
 use Rattle.qs_lex.specs.declared.token.Kind.TheVariants.{Bare, Quoted}
 use Rattle.qs_lex.specs.declared.token.Token.{Token}
 
--- how many bytes of white space and comments stand at the front; and how many do behind a '#', whose comment goes to the
--- next line feed or the end
+-- how many bytes of white space and comments stand at the front; and how many do behind a '#', whose comment goes to
+-- the next line feed or the end
 abbrev mutual
   pub blank_len : List ℕ → ℕ
   blank_len [] = 0
@@ -50,7 +51,8 @@ pub record IsTokenOf (text : List ℕ) (t : Token) : Type 0 where
 -- from `at` on, the spans of these tokens ascend, and each begins and ends between characters
 abbrev pub AreSpansFrom : List ℕ → ℕ → List Token → Type 0
 AreSpansFrom text at [] = Unit {0}
-AreSpansFrom text at (t ∷ ts) = (at ≤ t.from) × (t.from < t.to) × IsCharBoundary text t.from × IsCharBoundary text t.to × AreSpansFrom text t.to ts
+AreSpansFrom text at (t ∷ ts) =
+    (at ≤ t.from) × (t.from < t.to) × IsCharBoundary text t.from × IsCharBoundary text t.to × AreSpansFrom text t.to ts
 
 -- the token is a label, bare or quoted
 abbrev pub IsLabel : Token → Type 0

@@ -3,7 +3,8 @@
 ghost use Rattle.std.specs.Prelude.{◌≡◌, ◌≤◌, length};
 ghost use Rattle.std.specs.List.{prefix_len};
 ghost use Rattle.std.specs.Char.{is_ascii_digit};
-ghost use Rattle.qs_lex.specs.Characters.{is_label, is_capital_or_digit, is_variable_letter, ends_line};
+ghost use Rattle.qs_lex.specs.Characters.{is_label, is_variable_letter, ends_line};
+ghost use Rattle.qs_lex.specs.working.Characters.{is_capital_or_digit};
 ghost use Rattle.qs_lex.specs.Tokens.{blank_len};
 
 /// Whether the byte is of a label character.

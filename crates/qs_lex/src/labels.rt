@@ -17,8 +17,8 @@ fn unquoted(alloc: Global, label: &str) -> Result<String, Memory>
     inside.replace(alloc, "\"\"", "\"")
 }
 
-/// The text of a label: of a bare one its characters; of a quoted one what stands between its quotes, with one quote for
-/// each two. The token is a label, bare or quoted, of this text.
+/// The text of a label: of a bare one its characters; of a quoted one what stands between its quotes, with one quote
+/// for each two. The token is a label, bare or quoted, of this text.
 pub fn label_text(alloc: Global, text: &str, token: &Token) -> Result<String, Memory>
     requires of_text { IsTokenOf text.now token.now }
     requires label { IsLabel token.now }

@@ -1,6 +1,7 @@
 //! What holds of the definitions, whatever the program does.
 
-ghost use Rattle.std.specs.Prelude.{◌≡◌, ℕ, List, [], ◌∷◌, ◌<◌, ◌≤◌, ◌⊎◌, length, slice_index, encode_utf8, IsUtf8, IsCharBoundary};
+ghost use Rattle.std.specs.Prelude.{◌≡◌, ℕ, List, [], ◌∷◌, ◌<◌, ◌≤◌, ◌⊎◌, length, slice_index, encode_utf8, IsUtf8};
+ghost use Rattle.std.specs.Prelude.{IsCharBoundary};
 ghost use Rattle.qs_lex.specs.Characters.{is_label, is_space, is_sign};
 ghost use Rattle.qs_lex.specs.Spelling.{between_quotes};
 ghost use Rattle.qs_lex.specs.Tokens.{StandsIn, AreTokensOf, IsTokenOf, HasLabelText};
@@ -28,8 +29,10 @@ pub fn one_reading()
     ensures place { (text : List ℕ) (p q : ℕ) (c d : Cause) → IsFirstFault text p c → IsFirstFault text q d → p ≡ q }
     ensures cause { (text : List ℕ) (p q : ℕ) (c d : Cause) → IsFirstFault text p c → IsFirstFault text q d → c ≡ d }
     ensures refusal { (text : List ℕ) (r s : Refusal) → IsRefusalOf text r → IsRefusalOf text s → r ≡ s }
-    ensures some { (text : List ℕ) → ((ts : List Token) × AreTokensOf text ts) ⊎ ((p : ℕ) × (c : Cause) × IsFirstFault text p c) }
-    ensures not_both { (text : List ℕ) (ts : List Token) (p : ℕ) (c : Cause) → AreTokensOf text ts → IsFirstFault text p c → ⊥ }
+    ensures some { (text : List ℕ)
+        → ((ts : List Token) × AreTokensOf text ts) ⊎ ((p : ℕ) × (c : Cause) × IsFirstFault text p c) }
+    ensures not_both { (text : List ℕ) (ts : List Token) (p : ℕ) (c : Cause) → AreTokensOf text ts
+        → IsFirstFault text p c → ⊥ }
 {}
 
 /// A label has one text.
@@ -38,9 +41,9 @@ pub fn one_label_text()
     ensures label { (text : List ℕ) (t : Token) (a b : List ℕ) → HasLabelText text t a → HasLabelText text t b → a ≡ b }
 {}
 
-/// Bytes may stand for characters. A character up to U+007F is one byte, and each byte of any other is 128 or more. So a
-/// byte is of a label character, of white space or of a sign exactly where its character is one: no byte of a character
-/// from U+0080 on is a space, a quote, a dash or punctuation.
+/// Bytes may stand for characters. A character up to U+007F is one byte, and each byte of any other is 128 or more. So
+/// a byte is of a label character, of white space or of a sign exactly where its character is one: no byte of a
+/// character from U+0080 on is a space, a quote, a dash or punctuation.
 pub fn bytes_of_characters()
     ensures ascii { (c : ℕ) → c < 128 → encode_utf8 c ≡ c ∷ [] }
     ensures other { (c k : ℕ) → 128 ≤ c → k < length (encode_utf8 c) → 128 ≤ slice_index (encode_utf8 c) k }

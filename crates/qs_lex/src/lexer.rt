@@ -1,33 +1,16 @@
 //! The tokens of a text, or its first fault.
 
-ghost use Rattle.std.specs.Prelude.{◌≡◌, ◌<◌, ◌≤◌, ℕ, List, length, IfOk, IfErr, IsErr, slice_index, IsCharBoundary};
+ghost use Rattle.std.specs.Prelude.{◌≡◌, ◌<◌, ◌≤◌, ℕ, List, length, IfOk, IfErr, IsErr, slice_index};
 ghost use Rattle.qs_lex.specs.declared.token.Token.{Token};
 ghost use Rattle.qs_lex.specs.declared.refusal.Cause.{Cause};
 ghost use Rattle.qs_lex.specs.Tokens.{StandsIn, AreTokensOf, AreSpansFrom};
-ghost use Rattle.qs_lex.specs.Refusals.{IsFaulty, cause_at, EndsFor, IsRefusalOf, IsFirstFault};
+ghost use Rattle.qs_lex.specs.Refusals.{IsFaulty, cause_at, EndsFor, IsFirstFault};
 
 use crate::characters::blank_len;
-use crate::places::place;
 use crate::refusal::{Cause, LexEnd, Refusal};
 use crate::scanner::scan;
 use crate::token::Token;
 use std::alloc::Global;
-
-/// The refusal of a text whose first faulty place this is.
-fn refusal(text: &str, byte: u32, cause: Cause) -> Refusal
-    requires border { IsCharBoundary text.now byte }
-    requires short { length text.now ≤ 4194304 }
-    requires fault { IsFirstFault text.now byte cause }
-
-    ensures { IsRefusalOf text.now result }
-{
-    let (line, column) = place(text, byte);
-    Refusal {
-        line,
-        column,
-        cause,
-    }
-}
 
 /// The token that stands at a place, or the cause why none does.
 fn token_at(bytes: &[u8], at: usize) -> Result<Token, Cause>
@@ -51,8 +34,8 @@ fn token_at(bytes: &[u8], at: usize) -> Result<Token, Cause>
 
 /// The tokens of the text, which has at most 4,194,304 bytes. Their spans ascend and begin and end between characters.
 ///
-/// `Refused` comes exactly where the text has a faulty place, with the first one and its cause. `Memory` may come for any
-/// text.
+/// `Refused` comes exactly where the text has a faulty place, with the first one and its cause. `Memory` may come for
+/// any text.
 pub fn tokens(alloc: Global, text: &str) -> Result<Vec<Token>, LexEnd>
     requires { length text.now ≤ 4194304 }
 
@@ -76,7 +59,10 @@ pub fn tokens(alloc: Global, text: &str) -> Result<Vec<Token>, LexEnd>
                 let to = token.to as usize;
                 at = to + blank_len(&bytes[to..]);
             }
-            Err(cause) => return Err(LexEnd::Refused(refusal(text, at as u32, cause))),
+            Err(cause) => {
+                let refusal = Refusal::at(text, at as u32, cause);
+                return Err(LexEnd::Refused(refusal));
+            }
         }
     }
     Ok(tokens)

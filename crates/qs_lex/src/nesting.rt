@@ -8,8 +8,8 @@ use crate::token::{Kind, Token};
 /// How many parentheses may be open.
 const MOST_OPEN: u32 = 1000;
 
-/// The index of the first opening parenthesis behind which more than 1,000 are open; `None` exactly where there is none.
-/// A closing one lowers the number, never below 0. It takes no memory.
+/// The index of the first opening parenthesis behind which more than 1,000 are open; `None` exactly where there is
+/// none. A closing one lowers the number, never below 0. It takes no memory.
 pub fn too_deep(tokens: &[Token]) -> Option<usize>
     ensures some { IfSome result (IsTooDeep tokens.now) }
     ensures first { IfSome result (λ index. (earlier : ℕ) → earlier < index → IsTooDeep tokens.now earlier → ⊥) }

@@ -24,9 +24,9 @@ fn last_line_len(text: &str) -> usize
     len
 }
 
-/// The line and the column of a place of the text, which is the number of bytes before it. Each is counted from 1. A line
-/// ends at each line feed. A column counts characters, not bytes, and a tab or a carriage return is one of them. The place
-/// is between characters, and the text has at most 4,194,304 bytes. It takes no memory.
+/// The line and the column of a place of the text, which is the number of bytes before it. Each is counted from 1. A
+/// line ends at each line feed. A column counts characters, not bytes, and a tab or a carriage return is one of them.
+/// The place is between characters, and the text has at most 4,194,304 bytes. It takes no memory.
 pub fn place(text: &str, byte: u32) -> (u32, u32)
     requires border { IsCharBoundary text.now byte }
     requires short { length text.now ≤ 4194304 }

@@ -1,5 +1,6 @@
 //! Where and why a text is refused.
 
+use crate::places::place;
 use std::alloc::{AllocError, AllocFailed};
 
 /// Why a text is refused. `tokens` gives `BadCharacter`, `OpenQuote`, `BadWord` and `BadVariable`; the others are for
@@ -40,12 +41,62 @@ pub enum Cause {
     Exits,
 }
 
+impl Cause {
+    ghost use Rattle.std.specs.Prelude.{◌≡◌};
+    ghost use Rattle.qs_lex.specs.Refusals.{cause_name};
+
+    /// The name by which the cause is told.
+    pub fn name(self) -> &'static str
+        ensures { result.now ≡ cause_name self }
+    {
+        match self {
+            Cause::NotUtf8 => "NotUtf8",
+            Cause::BadCharacter => "BadCharacter",
+            Cause::OpenQuote => "OpenQuote",
+            Cause::BadWord => "BadWord",
+            Cause::BadVariable => "BadVariable",
+            Cause::TooDeep => "TooDeep",
+            Cause::Syntax => "Syntax",
+            Cause::TooManySystems => "TooManySystems",
+            Cause::SideTooLong => "SideTooLong",
+            Cause::TooManyCells => "TooManyCells",
+            Cause::TooManyVariables => "TooManyVariables",
+            Cause::Unbound => "Unbound",
+            Cause::TooManyArcs => "TooManyArcs",
+            Cause::Cycle => "Cycle",
+            Cause::Entries => "Entries",
+            Cause::Exits => "Exits",
+        }
+    }
+}
+
 /// The first fault of a text: its line and its column, each counted from 1 and the column in characters, and its cause.
 #[derive(Clone, Copy, Debug, PartialEq, Eq)]
 pub struct Refusal {
     pub line: u32,
     pub column: u32,
     pub cause: Cause,
+}
+
+impl Refusal {
+    ghost use Rattle.std.specs.Prelude.{◌≤◌, length, IsCharBoundary};
+    ghost use Rattle.qs_lex.specs.Refusals.{Tells};
+
+    /// What is told of a fault at this byte of the text, of this cause. The byte is between characters, and the text
+    /// has at most 4,194,304 bytes. It takes no memory.
+    pub fn at(text: &str, byte: u32, cause: Cause) -> Refusal
+        requires border { IsCharBoundary text.now byte }
+        requires short { length text.now ≤ 4194304 }
+
+        ensures { Tells text.now byte cause result }
+    {
+        let (line, column) = place(text, byte);
+        Refusal {
+            line,
+            column,
+            cause,
+        }
+    }
 }
 
 /// Why `tokens` gives none.

@@ -1,7 +1,8 @@
 //! Reading the token at the front of a text, from the left.
 
 ghost use Rattle.std.specs.Prelude.{◌≡◌, ◌+◌, ◌<◌, ◌≤◌, IfSome, length, drop, option_map};
-ghost use Rattle.qs_lex.specs.Scan.{number_after, quote_len, with_digits, variable_of, label_at, mark_at, scan, punctuation};
+ghost use Rattle.qs_lex.specs.working.Scan.{number_after, quote_len, with_digits, variable_of, label_at, mark_at, scan};
+ghost use Rattle.qs_lex.specs.working.Scan.{punctuation};
 
 use crate::characters::{capital_or_digit_len, digit_len, is_label, is_variable_letter, label_len};
 use crate::refusal::Cause;

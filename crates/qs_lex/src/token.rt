@@ -17,7 +17,7 @@ pub enum Word {
 impl Word {
     ghost use Rattle.std.specs.Prelude.{◌≡◌};
     ghost use Rattle.qs_lex.specs.Spelling.{name_of};
-    ghost use Rattle.qs_lex.specs.Scan.{word_of};
+    ghost use Rattle.qs_lex.specs.working.Scan.{word_of};
 
     const ALL: [Word; 8] = [
         Word::Systeme,

@@ -3,7 +3,8 @@ use Rattle.std.proofs.Common.{◌≡◌, ℕ, zero, suc, ◌+◌, ◌<◌, List,
 use Rattle.qs_tree.specs.declared.cell.Label.{Label}
 use Rattle.qs_tree.specs.declared.cell.Cell.{Cell}
 use Rattle.qs_tree.specs.Trees.{Forest, no_tree, first_tree, Tree, size}
-use Rattle.qs_tree.specs.Cells.{cells_of, tree_of, IsTree, tree_of-cells_of_tree}
+use Rattle.qs_tree.specs.Cells.{cells_of, tree_of, IsTree}
+use Rattle.qs_tree.specs.working.Cells.{tree_of-cells_of_tree}
 use Rattle.qs_tree.specs.Text.{AreNamed, IsNamed}
 use Rattle.qs_tree.proofs.Runs.{tree_cells}
 

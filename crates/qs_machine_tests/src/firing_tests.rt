@@ -121,6 +121,37 @@ fn a_view_has_its_arcs_and_a_firing_fires_where_rule_path_and_values_agree(rt: H
     look_at_firings(&rt, rt.alloc(), rules_of(&deck), &view, deck.graph.edges());
 }
 
+/// A view with the arcs of a graph, which is dropped.
+fn view_of_dropped<R: Abort>(rt: &R, alloc: Global, text: &str) -> View {
+    let deck = read_deck(alloc, text.as_bytes()).expect(rt, "a deck");
+    let arcs = deck.graph.edges();
+    assert!(rt; arcs.len() < 100);
+    let mut view = View::empty(alloc);
+    view.add(arcs).expect(rt, "its arcs");
+    view
+}
+
+/// Whether the trees of the view have these roots and so many subtrees.
+fn has_trees(view: &View, wanted: &[(u32, usize)]) -> bool {
+    for (arc, (root, kids)) in wanted.iter().enumerate() {
+        if arc >= view.len() as usize {
+            return false;
+        }
+        let tree = view.edge(arc as u32).tree.view();
+        if tree.root() != Label(*root) || tree.kids().len() != *kids {
+            return false;
+        }
+    }
+    view.len() as usize == wanted.len()
+}
+
+#[test]
+fn a_view_filled_from_a_graph_has_its_trees_also_when_the_graph_is_gone(rt: HostRuntime) {
+    let text = "-SYSTEME- S. -GRAPHE- -1- A + B(A,A) -2-. -FIN-";
+    let view = view_of_dropped(&rt, rt.alloc(), text);
+    assert!(rt; has_trees(&view, &[(1, 0), (2, 2)]));
+}
+
 /// Firings in ascending order.
 fn ascending<R: Abort>(rt: &R, alloc: Global, arcs: &[Edge]) -> Vec<Firing> {
     let rows = [

@@ -38,14 +38,8 @@ fn a_chain_of_three_trees_has_two_inner_nodes(rt: HostRuntime) {
 fn a_node_that_no_arc_touches_is_an_entry_too(rt: HostRuntime) {
     let alloc = rt.alloc();
     let tree = Tree::leaf(alloc, Label(0)).expect(&rt, "a tree");
-    let arcs = vec![in alloc;
-        Edge {
-            from: 1,
-            to: 2,
-            tree
-        },
-    ]
-    .expect(&rt, "an arc");
+    let arc = Edge::new(alloc, 1, 2, tree).expect(&rt, "an arc");
+    let arcs = vec![in alloc; arc].expect(&rt, "room for it");
     assert!(rt; Graph::new(alloc, 3, arcs).err() == Some(GraphEnd::Entries));
 }
 

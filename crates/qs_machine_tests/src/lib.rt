@@ -1,5 +1,5 @@
 //! Tests of the values that rules act on: labels and trees, variables and substitutions, graphs, firings and
-//! matches.
+//! matches; and of what unique grammars leave.
 #![tactic(auto)]
 
 #[cfg(test)]
@@ -8,6 +8,8 @@ mod firing_tests;
 mod graph_tests;
 #[cfg(test)]
 mod match_tests;
+#[cfg(test)]
+mod merging_tests;
 #[cfg(test)]
 mod reading;
 #[cfg(test)]

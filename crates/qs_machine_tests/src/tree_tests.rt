@@ -43,6 +43,17 @@ fn copies_of_a_tree_and_of_its_list_are_equal(rt: HostRuntime) {
     assert!(rt; is_list_copied(&rt, rt.alloc(), tree.view().kids()));
 }
 
+/// Whether the list has just one tree, and this one.
+fn is_alone(list: ForestRef<'_>, tree: TreeRef<'_>) -> bool {
+    matches!(list.first_rest(), Some((first, rest)) if same(first, tree) && rest.len() == 0)
+}
+
+#[test]
+fn a_tree_alone_is_the_list_of_this_tree(rt: HostRuntime) {
+    let tree = pair(&rt, rt.alloc());
+    assert!(rt; tree.view().alone().len() == 1 && is_alone(tree.view().alone(), tree.view()));
+}
+
 /// The cells of a tree in which each node but the last has one subtree.
 fn chain(alloc: Global, label: Label, depth: usize) -> Result<Vec<Cell>, Memory>
     requires { 0 < depth }

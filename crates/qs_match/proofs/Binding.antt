@@ -8,7 +8,7 @@ use Rattle.qs_pattern.specs.declared.subst.Value.TheVariants as value
 use Rattle.qs_pattern.specs.Substitutions.{value_of}
 use Rattle.qs_pattern.specs.Substitutions.{Substitution, IsOfClass}
 use Rattle.qs_pattern.specs.Variables.{IsLabelVar, IsTreeVar, IsForestVar}
-use Rattle.qs_match.specs.Tasks.{AreOfClass, Extends, Binds, HasOther}
+use Rattle.qs_match.specs.working.Tasks.{AreOfClass, Extends, Binds, HasOther}
 use Rattle.qs_match.proofs.Values.{pair_of, known_from, known_to, known_value, new_from, new_value, new_to}
 
 module _ {s r : Substitution} {v : Var} {vs : List Var} where

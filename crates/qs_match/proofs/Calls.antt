@@ -12,13 +12,13 @@ use Rattle.qs_pattern.specs.Patterns.{Patterns, no_pattern, node_first, tree_var
 use Rattle.qs_pattern.specs.Substitutions.{Substitution}
 use Rattle.qs_pattern.specs.Patterns.{IsHeadInClass}
 use Rattle.qs_pattern.specs.Variables.{IsTreeVar, IsForestVar}
-use Rattle.qs_match.specs.Tasks.{Tasks, task_variables, head_before, variables_before, Extends, Solves, Appends, Binds, HasOther, AppendsWith, AreOfClass, TakesFront}
+use Rattle.qs_match.specs.working.Tasks.{Tasks, task_variables, head_before, variables_before, Extends, Solves, Appends, Binds, HasOther, AppendsWith, AreOfClass, TakesFront}
 use Rattle.qs_match.proofs.Steps.{node_parts, step_end, step_tree, stop_tree, stop_no_tree, step_node, step_head, stop_head}
 use Rattle.qs_match.proofs.Listed.{appends_one, appends_none}
 use Rattle.qs_match.proofs.Binding.{has_value, binding, bind_to}
 use Rattle.qs_match.proofs.Covered.{fits}
 use Rattle.qs_match.proofs.Splits.{passes_joins, passes_length, whole_front}
-use Rattle.qs_match.specs.Counts.{CanFit, CanBeRoot}
+use Rattle.qs_match.specs.working.Counts.{CanFit, CanBeRoot}
 use Rattle.qs_tree.specs.Splits.{PassesTree}
 use Rattle.qs_pattern.specs.Instances.{inst, label_of}
 use Rattle.qs_pattern.specs.Patterns.{AreInClass}

@@ -11,8 +11,8 @@ use Rattle.qs_pattern.specs.Variables.{IsLabelVar, IsTreeVar, IsForestVar}
 use Rattle.qs_pattern.specs.Patterns.{Patterns, no_pattern, node_first, tree_var_first, forest_var_first, AreInClass, NoForestAtTop}
 use Rattle.qs_pattern.specs.Substitutions.{Substitution, value_of}
 use Rattle.qs_pattern.specs.Instances.{inst, tree_in, trees_in, IsLabel, IsTree, IsForest, IsCovered}
-use Rattle.qs_match.specs.Counts.{singles, CanFit}
-use Rattle.qs_match.specs.Tasks.{Extends, AreOfClass, variables_before, TakesFront}
+use Rattle.qs_match.specs.working.Counts.{singles, CanFit}
+use Rattle.qs_match.specs.working.Tasks.{Extends, AreOfClass, variables_before, TakesFront}
 use Rattle.qs_match.proofs.Values.{known_value}
 use Rattle.qs_match.proofs.Binding.{has_value, binding, bind_to, label_has, tree_has, forest_has}
 

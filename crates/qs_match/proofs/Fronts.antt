@@ -17,7 +17,7 @@ use Rattle.qs_pattern.specs.Substitutions.{value_of}
 use Rattle.qs_pattern.specs.Substitutions.{Substitution, forest_lengths, forest_length}
 use Rattle.qs_pattern.specs.Variables.{IsForestVar}
 use Rattle.qs_match.specs.Order.{LengthsBefore}
-use Rattle.qs_match.specs.Tasks.{Tasks, task_variables, Extends, Solves, Lists, Appends, Binds, HasOther, TakesFront}
+use Rattle.qs_match.specs.working.Tasks.{Tasks, task_variables, Extends, Solves, Lists, Appends, Binds, HasOther, TakesFront}
 use Rattle.qs_match.proofs.Values.{known_value, new_to}
 use Rattle.qs_match.proofs.Binding.{bind_to, bind_from, clash_never, forest_value}
 use Rattle.qs_match.proofs.Listed.{lists_both, lists_same, lists_none, appends_none}
@@ -27,7 +27,7 @@ before_at : (p : List ℕ) (m n : ℕ) (a b : List ℕ) → m < n → slice_cmp 
 before_at [] m n a b h = rw (sym (nat_cmp_is m n Less h)) refl
 before_at (k ∷ p) m n a b h = rw (sym (nat_cmp_is k k Equal refl)) (before_at p m n a b h)
 
-pub lengths_at : (s r more : Substitution) (v : Var) (y : Value) (a : List Tree) → r ≡ (s ++ (v, y) ∷ []) ++ more → y ≡ value.Forest a → forest_lengths r ≡ forest_lengths s ++ length a ∷ forest_lengths more
+lengths_at : (s r more : Substitution) (v : Var) (y : Value) (a : List Tree) → r ≡ (s ++ (v, y) ∷ []) ++ more → y ≡ value.Forest a → forest_lengths r ≡ forest_lengths s ++ length a ∷ forest_lengths more
 lengths_at s r more v y a e is =
     ap forest_lengths (e ∙ append_assoc s ((v, y) ∷ []) more ∙ ap (λ (z : Value). s ++ ((v, z) ∷ more)) is) ∙ filter_map-append forest_length s ((v, value.Forest a) ∷ more)
 
@@ -63,7 +63,7 @@ pub record Splits (tasks : Tasks) (s : Substitution) (v : Var) (n : ℕ) (old ne
   pub are : new ≡ old ++ found
   pub lists : Lists (ShortSolves tasks s v n) found
 
-pub same_front : (a b x y : List Tree) → length a ≡ length b → a ++ x ≡ b ++ y → a ≡ b
+same_front : (a b x y : List Tree) → length a ≡ length b → a ++ x ≡ b ++ y → a ≡ b
 same_front [] [] x y n e = refl
 same_front [] (u ∷ b) x y n e = absurd (omega arith)
 same_front (t ∷ a) [] x y n e = absurd (omega arith)

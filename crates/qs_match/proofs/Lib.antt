@@ -11,4 +11,3 @@ pub mod Variables
 pub mod Variants
 pub mod Measures
 pub mod Calls
-pub mod Lengths

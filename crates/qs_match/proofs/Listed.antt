@@ -1,29 +1,16 @@
 -- Lists of exactly those of which a fact holds.
 use Rattle.std.proofs.Common.{subst, ◌≡◌, ◌⊎◌, inl, inr, List, [], ◌∷◌, ◌++◌, refl, sym, ap, ◌∙◌, append-nil}
 use Rattle.qs_tree.specs.Lists.{◌∈◌, Ascends}
+use Rattle.qs_tree.proofs.Members.{in_append_left, in_append_right, from_append}
 use Rattle.qs_pattern.specs.Substitutions.{Substitution, variables_of}
 use Rattle.qs_match.specs.Order.{LengthsBefore}
-use Rattle.qs_match.specs.Tasks.{Tasks, Solves, AreOfClass, Lists, Appends}
+use Rattle.qs_match.specs.working.Tasks.{Tasks, Solves, AreOfClass, Lists, Appends}
 
 module _ {X : Type 0} where
-  pub in_left : (x : X) (xs ys : List X) → x ∈ xs → x ∈ (xs ++ ys)
-  in_left x [] ys i = absurd i
-  in_left x (y ∷ xs) ys (inl e) = inl e
-  in_left x (y ∷ xs) ys (inr i) = inr (in_left x xs ys i)
-
-  pub in_right : (x : X) (xs ys : List X) → x ∈ ys → x ∈ (xs ++ ys)
-  in_right x [] ys i = i
-  in_right x (y ∷ xs) ys i = inr (in_right x xs ys i)
-
-  pub in_either : (x : X) (xs ys : List X) → x ∈ (xs ++ ys) → (x ∈ xs) ⊎ (x ∈ ys)
-  in_either x [] ys i = inr i
-  in_either x (y ∷ xs) ys (inl e) = inl (inl e)
-  in_either x (y ∷ xs) ys (inr i) = elim (in_either x xs ys i) [ inl j ↦ inl (inr j) | inr j ↦ inr j ]
-
   pub Ascends-append : (Below : X → X → Type 0) (xs ys : List X) → Ascends Below xs → Ascends Below ys → ((x y : X) → x ∈ xs → y ∈ ys → Below x y) → Ascends Below (xs ++ ys)
   Ascends-append Below [] ys a b h = b
   Ascends-append Below (x ∷ xs) ys a b h = (
-    λ z i. elim (in_either z xs ys i) [ inl j ↦ a.0 z j | inr j ↦ h x z (inl refl) j ],
+    λ z i. elim (from_append xs ys z i) [ inl j ↦ a.0 z j | inr j ↦ h x z (inl refl) j ],
     Ascends-append Below xs ys a.1 b (λ y z i j. h y z (inr i) j),
   )
 
@@ -43,8 +30,8 @@ module _ {P Q A : Substitution → Type 0} {found more : List Substitution} wher
   pub lists_both : Lists P found → Lists Q more → ((r : Substitution) → P r → A r) → ((r : Substitution) → Q r → A r) → ((r : Substitution) → A r → P r ⊎ Q r)
       → ((r q : Substitution) → P r → Q q → LengthsBefore r q) → Lists A (found ++ more)
   lists_both l m pa qa split order = record {
-    sound = λ r i. elim (in_either r found more i) [ inl j ↦ pa r (l.sound r j) | inr j ↦ qa r (m.sound r j) ];
-    all = λ r a. elim (split r a) [ inl p ↦ in_left r found more (l.all r p) | inr q ↦ in_right r found more (m.all r q) ];
+    sound = λ r i. elim (from_append found more r i) [ inl j ↦ pa r (l.sound r j) | inr j ↦ qa r (m.sound r j) ];
+    all = λ r a. elim (split r a) [ inl p ↦ in_append_left found more r (l.all r p) | inr q ↦ in_append_right found more r (m.all r q) ];
     ascends = Ascends-append LengthsBefore found more l.ascends m.ascends (λ r q i j. order r q (l.sound r i) (m.sound q j));
   }
 
@@ -59,10 +46,10 @@ appends_none tasks s old never = record { found = []; are = sym (append-nil old)
 solved : (s : Substitution) → AreOfClass s → Solves [] s s
 solved s c = record { extends = record { more = []; are = sym (append-nil s); variables = refl; classes = c }; fits = tt }
 
-pub no_more : (s r more : Substitution) → r ≡ s ++ more → more ≡ [] → r ≡ s
+no_more : (s r more : Substitution) → r ≡ s ++ more → more ≡ [] → r ≡ s
 no_more s r more e n = e ∙ ap (λ (t : Substitution). s ++ t) n ∙ append-nil s
 
-pub no_names : (more : Substitution) → variables_of more ≡ [] → more ≡ []
+no_names : (more : Substitution) → variables_of more ≡ [] → more ≡ []
 no_names [] e = refl
 no_names (p ∷ more) e = absurd cc
 

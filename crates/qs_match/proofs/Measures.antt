@@ -2,7 +2,7 @@
 -- one for the end of each list.
 use Rattle.std.proofs.Common.{ℕ, ◌+◌, ◌*◌, [], ◌∷◌}
 use Rattle.qs_pattern.specs.Patterns.{Patterns, cells}
-use Rattle.qs_match.specs.Tasks.{Tasks}
+use Rattle.qs_match.specs.working.Tasks.{Tasks}
 
 abbrev pub list_steps : Patterns → ℕ
 list_steps ps = 2 * cells ps + 1

@@ -1,33 +1,10 @@
--- The first pattern of a list, and how many patterns stand for one tree each.
-use Rattle.std.proofs.Common.{◌≡◌, ℕ, ◌+◌, ◌-◌, ◌<◌, ◌≤◌, List, [], ◌∷◌, length, take, drop, get_or, refl, sym, ap, ◌∙◌, arith, Vec, Global}
-use Rattle.std.proofs.lemmas.Grind.{common_steps}
+-- How many patterns stand for one tree each.
+use Rattle.std.proofs.Common.{◌≡◌, ℕ, ◌+◌, ◌<◌, ◌≤◌, List, [], ◌∷◌, length, drop, get_or, refl, sym, ap, ◌∙◌, arith}
 use Rattle.std.proofs.lemmas.List.{drop_more, drop_all}
-use mathlib.Core.Former.{Count}
-use Rattle.qs_pattern.specs.declared.pattern.Head.{Head}
-use Rattle.qs_pattern.specs.declared.pattern.Pattern.{Pattern, Node, Node', Tree, Forest, Row_of-Pattern, end_of-Pattern, more_of-Pattern, items-the_row-Pattern, items_hidden-the_row-Pattern-0}
-use Rattle.qs_pattern.specs.declared.pattern.Pattern.TheBlock.{hidden-the_row-Pattern-0}
-use Rattle.qs_pattern.specs.Patterns.{Patterns, node_first, pattern_before, row_patterns, patterns, one_pattern, NoForestAtTop}
-use Rattle.qs_match.specs.Counts.{singles, CanFit}
-
-row_patterns-is : {n : Count} (row : Row_of-Pattern n) → row_patterns row ≡ patterns (items-the_row-Pattern n row)
-row_patterns-is end_of-Pattern = refl
-row_patterns-is (more_of-Pattern p row) = ap (pattern_before p) (row_patterns-is row)
-
-pub node_is : (h : Head) (ks : Vec Pattern Global) (behind : Patterns) → pattern_before (Node h ks) behind ≡ node_first h (patterns ks.items) behind
-node_is h ks behind = ap (λ us. node_first h us behind) (row_patterns-is (hidden-the_row-Pattern-0 ks) ∙ ap patterns (items_hidden-the_row-Pattern-0 ks))
-
-rest_is : (q : Pattern) (qs : List Pattern) → take (length (q ∷ qs) - 1) (drop 1 (q ∷ qs)) ≡ qs
-rest_is q qs = grind (arith, common_steps)
-
--- the first pattern is a node
-pub side_node : (ps : List Pattern) (p : Pattern) (h : Head) (ks : Vec Pattern Global) (kids : List Pattern) → 1 ≤ length ps → p ≡ get_or ps 0 p → p ≡ Node h ks → kids ≡ ks.items
-    → patterns ps ≡ node_first h (patterns kids) (patterns (take (length ps - 1) (drop 1 ps)))
-side_node [] p h ks kids some is node e = absurd (omega arith)
-side_node (q ∷ qs) p h ks kids some is node e =
-    let first : q ≡ Node h ks = sym is ∙ node in
-    ap (λ (r : Pattern). pattern_before r (patterns qs)) first ∙ node_is h ks (patterns qs)
-    ∙ ap (λ (us : List Pattern). node_first h (patterns us) (patterns qs)) (sym e)
-    ∙ ap (λ (us : List Pattern). node_first h (patterns kids) (patterns us)) (sym (rest_is q qs))
+use Rattle.qs_pattern.specs.declared.pattern.Pattern.{Pattern, Node', Tree, Forest}
+use Rattle.qs_pattern.specs.Patterns.{Patterns, pattern_before, patterns, NoForestAtTop}
+use Rattle.qs_pattern.specs.working.Patterns.{one_pattern}
+use Rattle.qs_match.specs.working.Counts.{singles, CanFit}
 
 singles-before : (p : Pattern) (us : Patterns) → singles (pattern_before p us) ≡ singles (one_pattern p) + singles us
 singles-before (Node' h shape kids) us = omega arith

@@ -1,7 +1,8 @@
 -- One step of the search: the solutions of the tasks before it are those of the tasks behind it.
 use Rattle.std.proofs.Common.{◌≡◌, List, [], ◌∷◌, ◌++◌, Some, refl, sym, ap, ◌∙◌}
 use Rattle.qs_tree.specs.declared.cell.Label.{Label}
-use Rattle.qs_tree.specs.Trees.{Tree, node, kids, trees, forest, trees-forest, forest-trees}
+use Rattle.qs_tree.specs.Trees.{Tree, node, kids, trees, forest}
+use Rattle.qs_tree.specs.working.Trees.{trees-forest, forest-trees}
 use Rattle.qs_pattern.specs.declared.variable.Var.{Var}
 use Rattle.qs_pattern.specs.declared.pattern.Head.TheVariants as head
 use Rattle.qs_pattern.specs.declared.subst.Value.TheVariants as value
@@ -10,7 +11,7 @@ use Rattle.qs_pattern.specs.Instances.{inst, tree_in, label_in}
 use Rattle.qs_pattern.specs.Substitutions.{value_of}
 use Rattle.qs_pattern.specs.Substitutions.{Substitution}
 use Rattle.qs_pattern.specs.Variables.{IsLabelVar, IsTreeVar}
-use Rattle.qs_match.specs.Tasks.{Tasks, Appends, Binds, HasOther}
+use Rattle.qs_match.specs.working.Tasks.{Tasks, Appends, Binds, HasOther}
 use Rattle.qs_match.proofs.Binding.{bind_to, bind_from, clash_never, label_value, tree_value}
 use Rattle.qs_match.proofs.Listed.{appends_same, appends_none}
 

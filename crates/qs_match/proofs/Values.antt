@@ -1,6 +1,5 @@
 -- What a substitution gives a variable, as it grows.
-use Rattle.std.proofs.Common.{Bool, true, false, ◌==◌, ◌&&◌, cond, ◌≡◌, inl, inr, List, [], ◌∷◌, ◌++◌, Some, None, refl, sym, ap, ◌∙◌, eq-eqb, append_assoc}
-use Rattle.std.proofs.lemmas.Bool.{eqb-true}
+use Rattle.std.proofs.Common.{Bool, true, false, cond, ◌≡◌, inl, inr, List, [], ◌∷◌, ◌++◌, Some, None, refl, sym, ap, ◌∙◌, append_assoc}
 use Rattle.std.proofs.lemmas.List.{map-append}
 use Rattle.qs_pattern.specs.declared.variable.Var.{Var}
 use Rattle.qs_pattern.specs.declared.subst.Value.{Value}
@@ -8,17 +7,8 @@ use Rattle.qs_pattern.specs.Variables.{same_var}
 use Rattle.qs_pattern.specs.Substitutions.{value_of}
 use Rattle.qs_tree.specs.Lists.{◌∈◌}
 use Rattle.qs_pattern.specs.Substitutions.{Substitution, variables_of}
-use Rattle.qs_match.specs.Tasks.{was_seen, new_ones, Extends}
-
-pub same_var-refl : (v : Var) → same_var v v ≡ true
-same_var-refl v = rw (eq-eqb v.letter v.letter refl, eq-eqb v.number v.number refl) refl
-
-pub both : (a b : Bool) → (a && b) ≡ true → (a ≡ true) × (b ≡ true)
-both true b e = (refl, e)
-both false b e = absurd cc
-
-pub same_var-letter : (v w : Var) → same_var v w ≡ true → v.letter ≡ w.letter
-same_var-letter v w e = eqb-true v.letter w.letter (both (v.letter == w.letter) (v.number == w.number) e).0
+use Rattle.qs_pattern.proofs.VariableLemmas.{same_var-true, same_var-refl}
+use Rattle.qs_match.specs.working.Tasks.{was_seen, new_ones, Extends}
 
 module _ (v : Var) where
   -- a value that is there stays the value
@@ -65,7 +55,7 @@ module _ (v : Var) where
     where
       split : (b : Bool) → same_var p.0 v ≡ b → (value_of s v ≡ Some y → (w : Var) × ((w, y) ∈ s) × (w.letter ≡ v.letter))
           → cond b (Some p.1) (value_of s v) ≡ Some y → (w : Var) × ((w, y) ∈ (p ∷ s)) × (w.letter ≡ v.letter)
-      split true t below h = let same : p.1 ≡ y = cc in (p.0, inl (ap (λ (z : Value). let q : Var × Value = (p.0, z) in q) (sym same)), same_var-letter p.0 v t)
+      split true t below h = let same : p.1 ≡ y = cc in (p.0, inl (ap (λ (z : Value). let q : Var × Value = (p.0, z) in q) (sym same)), ap (λ (u : Var). u.letter) (same_var-true p.0 v t))
       split false t below h = let r = below h in (r.0, inr r.1, r.2)
 
 -- Extending a substitution by a value of a variable.

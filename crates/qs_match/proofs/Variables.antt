@@ -1,6 +1,5 @@
 -- The new variables was_seen all: each where it first occurs.
-use Rattle.std.proofs.Common.{Bool, true, false, not, cond, ◌==◌, ◌&&◌, ◌≡◌, List, [], ◌∷◌, ◌++◌, filter, length, refl, sym, ap, ◌∙◌, subst, append_assoc, append-nil}
-use Rattle.std.proofs.lemmas.Bool.{eqb-true}
+use Rattle.std.proofs.Common.{Bool, true, false, not, cond, ◌&&◌, ◌≡◌, List, [], ◌∷◌, ◌++◌, filter, length, refl, sym, ap, ◌∙◌, subst, append_assoc, append-nil}
 use Rattle.qs_tree.specs.Trees.{Tree}
 use Rattle.qs_pattern.specs.declared.variable.Var.{Var}
 use Rattle.qs_pattern.specs.declared.pattern.Head.TheVariants as head
@@ -10,11 +9,11 @@ use Rattle.qs_pattern.specs.Substitutions.{Substitution, variables_of}
 use Rattle.qs_pattern.specs.Instances.{IsMatch, variables}
 use Rattle.qs_pattern.specs.Patterns.{variables_in, AreInClass}
 use Rattle.qs_pattern.specs.Variables.{firsts}
-use Rattle.qs_match.specs.Tasks.{Tasks, was_seen, new_ones, variables_before, Solves, Lists, Appends}
-use Rattle.qs_match.proofs.Values.{both}
+use Rattle.qs_pattern.proofs.VariableLemmas.{same_var-true}
+use Rattle.qs_match.specs.working.Tasks.{Tasks, was_seen, new_ones, variables_before, Solves, Lists, Appends}
 use Rattle.qs_match.proofs.Listed.{lists_same, lists_none}
 use Rattle.qs_match.proofs.Covered.{fits}
-use Rattle.qs_match.specs.Counts.{CanFit}
+use Rattle.qs_match.specs.working.Counts.{CanFit}
 
 pub variables_before-is : (ps : Patterns) (vs : List Var) → variables_before ps vs ≡ variables_in ps ++ vs
 variables_before-is no_pattern vs = refl
@@ -38,9 +37,7 @@ filter_whole p h [] = refl
 filter_whole p h (v ∷ vs) = rw (h v) (ap (λ us. v ∷ us) (filter_whole p h vs))
 
 same_var-same : (v w : Var) → same_var v w ≡ true → (u : Var) → same_var u v ≡ same_var u w
-same_var-same v w e u =
-    let b = both (v.letter == w.letter) (v.number == w.number) e in
-    rw (eqb-true v.letter w.letter b.0, eqb-true v.number w.number b.1) refl
+same_var-same v w e u = ap (same_var u) (same_var-true v w e)
 
 was_seen-same : (v w : Var) → same_var v w ≡ true → (seen : List Var) → was_seen v seen ≡ was_seen w seen
 was_seen-same v w e [] = refl

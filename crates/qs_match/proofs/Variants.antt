@@ -8,10 +8,10 @@ use Rattle.qs_match.specs.declared.remaining.Remaining.TheVariants.{Nothing, The
 use Rattle.qs_match.specs.declared.bindings.Bindings.TheOpen.{Bindings-F}
 use Rattle.qs_match.specs.declared.bindings.Bindings.TheFolds.{fold-roll-Bindings}
 use Rattle.qs_match.specs.declared.bindings.Bindings.TheVariants.{Nothing as NoBinding, More, rolls-Nothing as rolls-NoBinding, rolls-More}
-use Rattle.qs_match.specs.Bindings.{substitution_of, substitution_step, value_of_ref}
+use Rattle.qs_match.specs.working.Bindings.{substitution_of, substitution_step, value_of_ref}
 use Rattle.qs_pattern.specs.Substitutions.{Substitution}
-use Rattle.qs_match.specs.Tasks.{Tasks}
-use Rattle.qs_match.specs.Remaining.{tasks_of, tasks_step}
+use Rattle.qs_match.specs.working.Tasks.{Tasks}
+use Rattle.qs_match.specs.working.Remaining.{tasks_of, tasks_step}
 
 pub tasks-Nothing : tasks_of Nothing ≡ []
 tasks-Nothing = ap tasks_of (sym rolls-Nothing) ∙ fold-roll-Remaining Tasks tasks_step Remaining-F.Nothing

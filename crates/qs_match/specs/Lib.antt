@@ -1,5 +1,2 @@
 pub mod Order
-pub mod Counts
-pub mod Tasks
-pub mod Remaining
-pub mod Bindings
+pub mod working

@@ -3,7 +3,7 @@
 ghost use Rattle.std.specs.Prelude.{◌≡◌, ◌↔◌, IsTrue, IfOk};
 ghost use Rattle.std.specs.Option.{option_map};
 ghost use Rattle.qs_pattern.specs.Substitutions.{value_of, IsSubstitution};
-ghost use Rattle.qs_match.specs.Bindings.{value_of_ref, substitution_of};
+ghost use Rattle.qs_match.specs.working.Bindings.{value_of_ref, substitution_of};
 
 use qs_pattern::{Subst, Value, Var};
 use qs_tree::{Forest, ForestRef, Label, Tree, TreeRef, same, same_forest};

@@ -1,16 +1,17 @@
-//! How many trees patterns can stand for: what the search refuses at once, and which lengths it tries for a forest variable.
-//! Whether a match is found never rests on this alone.
+//! How many trees patterns can stand for: what the search refuses at once, and which lengths it tries for a forest
+//! variable. Whether a match is found never rests on this alone.
 
 ghost use Rattle.std.specs.Prelude.{ℕ, ◌≡◌, ◌↔◌, ◌+◌, ◌<◌, ◌≤◌, ◌++◌, List, length, IsTrue, IsNone, IfSome, Some};
 ghost use Rattle.qs_tree.specs.Trees.{Tree};
 ghost use Rattle.qs_tree.specs.Cells.{trees_of};
 ghost use Rattle.qs_tree.specs.Splits.{front_of, behind_of};
-ghost use Rattle.qs_pattern.specs.Patterns.{one_pattern, patterns, AreInClass};
+ghost use Rattle.qs_pattern.specs.Patterns.{patterns, AreInClass};
+ghost use Rattle.qs_pattern.specs.working.Patterns.{one_pattern};
 ghost use Rattle.qs_pattern.specs.Variables.{IsForestVar};
 ghost use Rattle.qs_pattern.specs.Substitutions.{Substitution, value_of};
-ghost use Rattle.qs_match.specs.Counts.{singles, CanFit, CanBeRoot};
-ghost use Rattle.qs_match.specs.Tasks.{TakesFront};
-ghost use Rattle.qs_match.specs.Bindings.{substitution_of};
+ghost use Rattle.qs_match.specs.working.Counts.{singles, CanFit, CanBeRoot};
+ghost use Rattle.qs_match.specs.working.Tasks.{TakesFront};
+ghost use Rattle.qs_match.specs.working.Bindings.{substitution_of};
 
 use crate::bindings::{Bindings, ValueRef, find};
 use qs_pattern::{Head, Pattern, Value, Var};
@@ -67,11 +68,13 @@ pub struct Lengths {
     pub most: usize,
 }
 
-/// The lengths that a list can have, where it and then the trees that the patterns stand for are these trees. Only one fits
-/// where no pattern is a forest variable. None where no length fits.
+/// The lengths that a list can have, where it and then the trees that the patterns stand for are these trees. Only one
+/// fits where no pattern is a forest variable. None where no length fits.
 fn lengths_before(side: &[Pattern], trees: ForestRef<'_>) -> Option<Lengths>
-    ensures none { IsNone result → (n m : ℕ) → n + m ≡ length (trees_of trees.entry.cells.now) → CanFit (patterns side.now) m → ⊥ }
-    ensures some { IfSome result (λ lengths. (n m : ℕ) → n + m ≡ length (trees_of trees.entry.cells.now) → CanFit (patterns side.now) m → (lengths.least ≤ n) × (n ≤ lengths.most)) }
+    ensures none { IsNone result → (n m : ℕ) → n + m ≡ length (trees_of trees.entry.cells.now)
+        → CanFit (patterns side.now) m → ⊥ }
+    ensures some { IfSome result (λ lengths. (n m : ℕ) → n + m ≡ length (trees_of trees.entry.cells.now)
+        → CanFit (patterns side.now) m → (lengths.least ≤ n) × (n ≤ lengths.most)) }
 {
     let single = single_count(side);
     let count = trees.len();
@@ -88,7 +91,8 @@ fn lengths_before(side: &[Pattern], trees: ForestRef<'_>) -> Option<Lengths>
 
 /// The length of the list that the variable stands for already. None where it has no value yet.
 fn known_length(bindings: &Bindings<'_>, var: Var) -> Option<usize>
-    ensures { IfSome result (λ n. (front : List Tree) × (value_of (substitution_of bindings.now) var ≡ Some (Value.Forest front)) × (length front ≡ n)) }
+    ensures { IfSome result (λ n. (front : List Tree)
+        × (value_of (substitution_of bindings.now) var ≡ Some (Value.Forest front)) × (length front ≡ n)) }
 {
     match find(bindings, var) {
         Some(ValueRef::Forest(forest)) => Some(forest.len()),
@@ -96,8 +100,8 @@ fn known_length(bindings: &Bindings<'_>, var: Var) -> Option<usize>
     }
 }
 
-/// The lengths that are tried for the forest variable, where it and then the patterns stand for these trees: those that fit,
-/// or only that of the value that it has already. None where no length fits.
+/// The lengths that are tried for the forest variable, where it and then the patterns stand for these trees: those that
+/// fit, or only that of the value that it has already. None where no length fits.
 pub fn lengths_of(
     var: Var,
     rest: &[Pattern],
@@ -105,8 +109,11 @@ pub fn lengths_of(
     bindings: &Bindings<'_>,
 ) -> Option<Lengths>
     requires in_class { AreInClass (patterns rest.now) }
-    ensures none { IsNone result → (r : Substitution) (front : List Tree) → TakesFront (substitution_of bindings.now) var (patterns rest.now) (trees_of trees.entry.cells.now) r front → ⊥ }
-    ensures some { IfSome result (λ lengths. (r : Substitution) (front : List Tree) → TakesFront (substitution_of bindings.now) var (patterns rest.now) (trees_of trees.entry.cells.now) r front → (lengths.least ≤ length front) × (length front ≤ lengths.most)) }
+    ensures none { IsNone result → (r : Substitution) (front : List Tree) → TakesFront (substitution_of bindings.now)
+        var (patterns rest.now) (trees_of trees.entry.cells.now) r front → ⊥ }
+    ensures some { IfSome result (λ lengths. (r : Substitution) (front : List Tree)
+        → TakesFront (substitution_of bindings.now) var (patterns rest.now) (trees_of trees.entry.cells.now) r front
+        → (lengths.least ≤ length front) × (length front ≤ lengths.most)) }
 {
     let fitting = lengths_before(rest, trees)?;
     let Some(length) = known_length(bindings, var) else {

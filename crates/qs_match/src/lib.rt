@@ -7,6 +7,7 @@ pub mod laws;
 mod matches;
 mod remaining;
 mod search;
+mod state;
 
 pub use matches::all_matches;
 pub use std::alloc::AllocError as Memory;

@@ -4,7 +4,8 @@ use Rattle.std.specs.declared.vec.Vec.{Vec}
 use mathlib.Core.Former.{Count}
 use Rattle.qs_pattern.specs.declared.condition.Cond.{Cond, All, Any, Row_of-Cond, end_of-Cond, more_of-Cond, items-the_row-Cond, items_hidden-the_row-Cond-0}
 use Rattle.qs_pattern.specs.declared.condition.Cond.TheBlock.{hidden-the_row-Cond-0}
-use Rattle.qs_pattern.specs.Conditions.{Condition, Conditions, all, any, combined, no_condition, condition_first, condition_of, row_conditions, conditions}
+use Rattle.qs_pattern.specs.Conditions.{Condition, Conditions, all, any, combined, no_condition, condition_first, condition_of, row_conditions}
+use Rattle.qs_pattern.specs.working.Conditions.{conditions}
 
 row_conditions-is : {n : Count} (k : Row_of-Cond n) → row_conditions k ≡ conditions (items-the_row-Cond n k)
 row_conditions-is end_of-Cond = refl

@@ -9,7 +9,8 @@ use Rattle.qs_pattern.specs.declared.pattern.Head.TheVariants as head
 use Rattle.qs_pattern.specs.Patterns.{Patterns, no_pattern, node_first, tree_var_first, forest_var_first, head_variables, variables_in, IsHeadInClass, AreInClass}
 use Rattle.qs_pattern.specs.Substitutions.{Substitution}
 use Rattle.qs_pattern.specs.Instances.{IsLabel, IsTree, IsForest, IsHeadCovered, IsCovered, IsMatch}
-use Rattle.qs_pattern.specs.Conditions.{Condition, Conditions, compared, negated, combined, no_condition, condition_first, over_all_lists, EachListOfAll, condition_variables, IsConditionInClass, IsConditionCovered, AreConditionsCovered}
+use Rattle.qs_pattern.specs.Conditions.{Condition, Conditions, compared, negated, combined, no_condition, condition_first, over_all_lists, condition_variables, IsConditionInClass, IsConditionCovered}
+use Rattle.qs_pattern.specs.working.Conditions.{EachListOfAll, AreConditionsCovered}
 use Rattle.qs_pattern.specs.Rules.{Rule, IsAccepted, variables_if_given, IsInClassIfGiven}
 use Rattle.qs_pattern.proofs.VariableLemmas.{HasValue}
 use Rattle.qs_pattern.proofs.Reading.{label_of_var, tree_of_var, forest_of_var}

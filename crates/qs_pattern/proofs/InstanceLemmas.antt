@@ -8,7 +8,8 @@ use Rattle.qs_pattern.specs.declared.pattern.Head.{Head}
 use Rattle.qs_pattern.specs.declared.pattern.Pattern.{Pattern, Node, Node', Tree, Forest}
 use Rattle.qs_pattern.proofs.PatternLemmas.{pattern-Node}
 use Rattle.qs_pattern.specs.declared.subst.Value.{Value}
-use Rattle.qs_pattern.specs.Patterns.{Patterns, no_pattern, pattern_before, patterns, one_pattern}
+use Rattle.qs_pattern.specs.Patterns.{Patterns, no_pattern, pattern_before, patterns}
+use Rattle.qs_pattern.specs.working.Patterns.{one_pattern}
 use Rattle.qs_pattern.specs.Instances.{inst, label_of, IsCovered, tree_in, trees_in}
 use Rattle.qs_pattern.specs.Patterns.{NoForestAtTop}
 use Rattle.qs_pattern.specs.Substitutions.{value_of}

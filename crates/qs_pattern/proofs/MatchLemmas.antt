@@ -3,6 +3,7 @@ use Rattle.std.proofs.Common.{◌≡◌, ℕ, Bool, true, false, List, [], ◌�
 use Rattle.std.specs.List.{cons_option}
 use Rattle.qs_tree.specs.Lists.{◌∈◌}
 use Rattle.qs_tree.specs.Trees.{Tree}
+use Rattle.qs_tree.proofs.Members.{map-same}
 use Rattle.qs_pattern.specs.declared.variable.Var.{Var}
 use Rattle.qs_pattern.specs.declared.subst.Value.{Value}
 use Rattle.qs_pattern.specs.declared.subst.Value.TheVariants as value
@@ -10,12 +11,16 @@ use Rattle.qs_pattern.specs.Variables.{same_var}
 use Rattle.qs_pattern.specs.Patterns.{Patterns, variables_in, AreInClass}
 use Rattle.qs_pattern.specs.Substitutions.{Substitution, variables_of, value_of, IsOfClass, forest_length, forest_lengths}
 use Rattle.qs_pattern.specs.Instances.{inst, variables, IsMatch}
-use Rattle.qs_pattern.proofs.VariableLemmas.{HasValue, has_value, valued, valued-all, value_or_zero, value_of-valued, value_of-here, value_of-behind, AreApart, firsts-apart, from_firsts, in_firsts, map-same}
+use Rattle.qs_pattern.proofs.VariableLemmas.{HasValue, has_value, valued, valued-all, value_or_zero, value_of-valued, value_of-here, value_of-behind, AreApart, firsts-apart, from_firsts, in_firsts}
 use Rattle.qs_pattern.proofs.Reading.{read, read-is, length_in, length_of}
 
--- each variable of a side has a value in a match
+-- each variable of a side has a value in a substitution of exactly the side's variables
+pub values_known : (side : Patterns) (s : Substitution) → variables_of s ≡ variables side → ((p : Var × Value) → p ∈ s → IsOfClass p) → (v : Var) → v ∈ variables_in side → HasValue s v
+values_known side s e classes v i = has_value s v (subst (λ vs. v ∈ vs) (sym e) (in_firsts (variables_in side) v i)) classes
+
+-- so each has one in a match
 pub matched_value : (side : Patterns) (ts : List Tree) (s : Substitution) → IsMatch side ts s → (v : Var) → v ∈ variables_in side → HasValue s v
-matched_value side ts s m v i = has_value s v (subst (λ vs. v ∈ vs) (sym m.variables) (in_firsts (variables_in side) v i)) m.classes
+matched_value side ts s m = values_known side s m.variables m.classes
 
 -- the values of a side's variables, from the trees and the lengths of its forests
 abbrev pub values_from : Patterns → (Var → ℕ) → List Tree → Substitution

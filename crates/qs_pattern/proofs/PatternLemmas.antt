@@ -6,7 +6,8 @@ use mathlib.Core.Former.{Count}
 use Rattle.qs_pattern.specs.declared.pattern.Head.{Head}
 use Rattle.qs_pattern.specs.declared.pattern.Pattern.{Pattern, Node, Node', Tree, Forest, Row_of-Pattern, end_of-Pattern, more_of-Pattern, items-the_row-Pattern, items_hidden-the_row-Pattern-0}
 use Rattle.qs_pattern.specs.declared.pattern.Pattern.TheBlock.{hidden-the_row-Pattern-0}
-use Rattle.qs_pattern.specs.Patterns.{Patterns, no_pattern, node_first, tree_var_first, forest_var_first, pattern_before, row_patterns, patterns, one_pattern}
+use Rattle.qs_pattern.specs.Patterns.{Patterns, no_pattern, node_first, tree_var_first, forest_var_first, pattern_before, row_patterns, patterns, count}
+use Rattle.qs_pattern.specs.working.Patterns.{one_pattern}
 
 row_patterns-is : {n : Count} (k : Row_of-Pattern n) → row_patterns k ≡ patterns (items-the_row-Pattern n k)
 row_patterns-is end_of-Pattern = refl
@@ -17,6 +18,13 @@ pattern-Node h ks rest = ap (λ ts. node_first h ts rest) (row_patterns-is (hidd
 
 rest_is : (q : Pattern) (qs : List Pattern) → take (length (q ∷ qs) - 1) (drop 1 (q ∷ qs)) ≡ qs
 rest_is q qs = grind (arith, common_steps)
+
+-- as many patterns as there are in the list
+pub count-patterns : (ps : List Pattern) → count (patterns ps) ≡ length ps
+count-patterns [] = refl
+count-patterns (Node' h shape kids ∷ ps) = omega (arith, count-patterns ps)
+count-patterns (Tree v ∷ ps) = omega (arith, count-patterns ps)
+count-patterns (Forest v ∷ ps) = omega (arith, count-patterns ps)
 
 -- the first pattern of a list is a node
 pub side_node : (ps : List Pattern) (p : Pattern) (h : Head) (ks : Vec Pattern Global) (kids : List Pattern) → 1 ≤ length ps → p ≡ get_or ps 0 p → p ≡ Node h ks → kids ≡ ks.items

@@ -9,10 +9,9 @@ use Rattle.qs_pattern.specs.declared.subst.Value.{Value}
 use Rattle.qs_pattern.specs.declared.subst.Value.TheVariants as value
 use Rattle.qs_pattern.specs.Variables.{same_var, firsts}
 use Rattle.qs_pattern.specs.Substitutions.{Substitution, variables_of, value_of, IsOfClass}
-use Rattle.qs_tree.proofs.Members.{from_filter, in_filter}
-
-true_false : (b : Bool) → b ≡ true → b ≡ false → ⊥
-true_false b p q = let e : true ≡ false = sym p ∙ q in cc
+use Rattle.std.proofs.lemmas.Bool.{not-true}
+use Rattle.qs_tree.proofs.Decisions.{true_false}
+use Rattle.qs_tree.proofs.Members.{from_filter, in_filter, map-same}
 
 pub same_var-true : (v w : Var) → same_var v w ≡ true → v ≡ w
 same_var-true v w e = split (eqb v.letter w.letter) refl (eqb v.number w.number) refl e
@@ -28,7 +27,7 @@ same_var-refl v = λ i. eq-eqb v.letter v.letter refl i && eq-eqb v.number v.num
 
 -- variables that are told apart aren't equal
 pub same_var-false : (v w : Var) → same_var v w ≡ false → v ≡ w → ⊥
-same_var-false v w f e = true_false (same_var v w) (ap (same_var v) (sym e) ∙ same_var-refl v) f
+same_var-false v w f e = true_false f (ap (same_var v) (sym e) ∙ same_var-refl v)
 
 same_var-turned : (v w : Var) → same_var v w ≡ false → same_var w v ≡ false
 same_var-turned v w f = tested (same_var w v) refl
@@ -50,14 +49,10 @@ filter-apart p (v ∷ vs) n = tested (p v) (filter-apart p vs n.1)
     tested true behind = ((λ w i. n.0 w (from_filter p vs w i).1), behind)
     tested false behind = behind
 
-not_true : (b : Bool) → not b ≡ true → b ≡ false
-not_true true e = absurd cc
-not_true false e = refl
-
 pub firsts-apart : (vs : List Var) → AreApart (firsts vs)
 firsts-apart [] = tt
 firsts-apart (v ∷ vs) =
-    ((λ w i. not_true (same_var v w) (from_filter (λ w. not (same_var v w)) (firsts vs) w i).0), filter-apart (λ w. not (same_var v w)) (firsts vs) (firsts-apart vs))
+    ((λ w i. not-true (same_var v w) (from_filter (λ w. not (same_var v w)) (firsts vs) w i).0), filter-apart (λ w. not (same_var v w)) (firsts vs) (firsts-apart vs))
 
 pub from_firsts : (vs : List Var) (v : Var) → v ∈ firsts vs → v ∈ vs
 from_firsts [] v i = i
@@ -102,10 +97,6 @@ value_or_zero s v = unwrap_or (value_of s v) (value.Label (record { 0 = 0 }))
 -- these variables with their values
 abbrev pub valued : Substitution → List Var → Substitution
 valued s vs = map (λ v. (v, value_or_zero s v)) vs
-
-pub map-same : {X Y : Type 0} (f g : X → Y) (xs : List X) → ((x : X) → x ∈ xs → f x ≡ g x) → map f xs ≡ map g xs
-map-same f g [] same = refl
-map-same f g (x ∷ xs) same = let e : f x ≡ g x = same x (inl refl) in let d : map f xs ≡ map g xs = map-same f g xs (λ y i. same y (inr i)) in cc
 
 -- a substitution whose variables are apart is its variables with their values
 pub valued-all : (s : Substitution) → AreApart (variables_of s) → s ≡ valued s (variables_of s)

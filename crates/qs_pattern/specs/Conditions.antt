@@ -1,9 +1,10 @@
 -- Conditions of rules. (Colmerauer's rules have them; their exact meaning here is this project's own.)
-use Rattle.std.specs.Prelude.{ℕ, ◌+◌, ◌≤◌, ◌⊎◌, List, [], ◌∷◌, ◌++◌, Option, Some, None}
+use Rattle.std.specs.Prelude.{ℕ, ◌+◌, ◌≤◌, ◌⊎◌, List, [], ◌++◌, Option, Some, None}
 use Rattle.qs_tree.specs.Lists.{◌∈◌}
 use Rattle.qs_tree.specs.Trees.{Tree}
 use Rattle.qs_pattern.specs.declared.variable.Var.{Var}
-use Rattle.qs_pattern.specs.declared.condition.Cond.{Cond, Within, Outside, Not', All', Any', Row_of-Cond, end_of-Cond, more_of-Cond}
+use Rattle.qs_pattern.specs.declared.condition.Cond.{Cond, Within, Outside, Not', All', Any', Row_of-Cond, end_of-Cond}
+use Rattle.qs_pattern.specs.declared.condition.Cond.{more_of-Cond}
 use Rattle.qs_pattern.specs.Patterns.{Patterns, patterns, cells, variables_in, AreInClass}
 use Rattle.qs_pattern.specs.Substitutions.{Substitution}
 use Rattle.qs_pattern.specs.Instances.{inst, IsCovered}
@@ -42,10 +43,6 @@ abbrev mutual
   pub row_conditions : {m : _} → Row_of-Cond m → Conditions
   row_conditions end_of-Cond = no_condition
   row_conditions (more_of-Cond c row) = condition_first (condition_of c) (row_conditions row)
-
-abbrev pub conditions : List Cond → Conditions
-conditions [] = no_condition
-conditions (c ∷ cs) = condition_first (condition_of c) (conditions cs)
 
 -- When two lists of trees are as the word says.
 abbrev pub Compares : Comparing → List Tree → List Tree → Type 0
@@ -89,9 +86,6 @@ abbrev mutual
 abbrev pub EachList : (Patterns → Type 0) → Condition → Type 0
 EachList P c = over_lists (Unit {0}) (λ A B. A × B) P c
 
-abbrev pub EachListOfAll : (Patterns → Type 0) → Conditions → Type 0
-EachListOfAll P cs = over_all_lists (Unit {0}) (λ A B. A × B) P cs
-
 -- How many labels and variables are written in a condition.
 abbrev pub condition_cells : Condition → ℕ
 condition_cells c = over_lists 0 (λ m n. m + n) cells c
@@ -107,9 +101,6 @@ IsConditionInClass c = EachList AreInClass c
 -- Each variable of a condition, or of several, has a value of its class.
 abbrev pub IsConditionCovered : Substitution → Condition → Type 0
 IsConditionCovered s c = EachList (IsCovered s) c
-
-abbrev pub AreConditionsCovered : Substitution → Conditions → Type 0
-AreConditionsCovered s cs = EachListOfAll (IsCovered s) cs
 
 -- How many conditions the list has.
 abbrev pub count_conditions : Conditions → ℕ

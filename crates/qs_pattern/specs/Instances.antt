@@ -13,8 +13,8 @@ use Rattle.qs_pattern.specs.Variables.{firsts}
 use Rattle.qs_pattern.specs.Patterns.{Patterns, no_pattern, node_first, tree_var_first, forest_var_first, variables_in}
 use Rattle.qs_pattern.specs.Substitutions.{Substitution, variables_of, value_of, IsOfClass}
 
--- What a value gives at the place of a label, of a tree and of a list of trees. (A variable without a value of its class
--- gives the label 0, or no tree; no rule that is accepted has one.)
+-- What a value gives at the place of a label, of a tree and of a list of trees. (A variable without a value of its
+-- class gives the label 0, or no tree; no rule that is accepted has one.)
 abbrev pub label_in : Option Value → Label
 label_in (Some (value.Label l)) = l
 label_in _ = record { 0 = 0 }
@@ -33,8 +33,8 @@ label_of s (head.Label l) = l
 label_of s (head.Var v) = label_in (value_of s v)
 
 -- The instance: a node stands for the tree with its head's label and the instances of its patterns as subtrees, a tree
--- variable for its tree, a forest variable for its list, and a list of patterns for the lists of its members, one behind
--- the other.
+-- variable for its tree, a forest variable for its list, and a list of patterns for the lists of its members, one
+-- behind the other.
 abbrev pub inst : Substitution → Patterns → List Tree
 inst s no_pattern = []
 inst s (node_first h kids behind) = node (label_of s h) (inst s kids) ∷ inst s behind

@@ -8,4 +8,4 @@ pub mod Conditions
 pub mod Limits
 pub mod Rules
 pub mod Named
-pub mod Codes
+pub mod working

@@ -3,7 +3,7 @@ use Rattle.std.specs.Prelude.{ℕ, ◌<◌, Option, Some, None}
 use Rattle.qs_pattern.specs.declared.pattern.Head.{Head}
 use Rattle.qs_pattern.specs.declared.pattern.Head.TheVariants as head
 use Rattle.qs_pattern.specs.Patterns.{Patterns, no_pattern, node_first, tree_var_first, forest_var_first}
-use Rattle.qs_pattern.specs.Conditions.{Condition, Conditions, EachList, EachListOfAll}
+use Rattle.qs_pattern.specs.Conditions.{Condition, EachList}
 
 -- Each label in these patterns is one of the first n.
 abbrev pub IsHeadNamed : ℕ → Head → Type 0
@@ -19,9 +19,6 @@ ArePatternsNamed n (forest_var_first v behind) = ArePatternsNamed n behind
 -- Each label in this condition, or in these, is one of the first n; so it is where there is none.
 abbrev pub IsConditionNamed : ℕ → Condition → Type 0
 IsConditionNamed n c = EachList (ArePatternsNamed n) c
-
-abbrev pub AreConditionsNamed : ℕ → Conditions → Type 0
-AreConditionsNamed n cs = EachListOfAll (ArePatternsNamed n) cs
 
 abbrev pub IsNamedIfGiven : ℕ → Option Condition → Type 0
 IsNamedIfGiven n None = Unit {0}

@@ -3,12 +3,13 @@ use Rattle.std.specs.Prelude.{ℕ, ◌+◌, List, [], ◌∷◌, ◌++◌}
 use Rattle.qs_pattern.specs.declared.variable.Var.{Var}
 use Rattle.qs_pattern.specs.declared.pattern.Head.{Head}
 use Rattle.qs_pattern.specs.declared.pattern.Head.TheVariants as head
-use Rattle.qs_pattern.specs.declared.pattern.Pattern.{Pattern, Node', Tree, Forest, Row_of-Pattern, end_of-Pattern, more_of-Pattern}
+use Rattle.qs_pattern.specs.declared.pattern.Pattern.{Pattern, Node', Tree, Forest, Row_of-Pattern, end_of-Pattern}
+use Rattle.qs_pattern.specs.declared.pattern.Pattern.{more_of-Pattern}
 use Rattle.qs_pattern.specs.Variables.{IsLabelVar, IsTreeVar, IsForestVar}
 
--- A list of patterns: no pattern; or first a node by its head and the patterns of its subtrees, or a tree variable, or a
--- forest variable, and then the patterns behind it. (The code's type keeps its lists in memory of their own. Two patterns
--- are equal where this is equal, wherever they lie.)
+-- A list of patterns: no pattern; or first a node by its head and the patterns of its subtrees, or a tree variable, or
+-- a forest variable, and then the patterns behind it. (The code's type keeps its lists in memory of their own. Two
+-- patterns are equal where this is equal, wherever they lie.)
 pub data Patterns : Type 0 where
   no_pattern : Patterns
   node_first : (head : Head) (kids : Patterns) (behind : Patterns) → Patterns
@@ -29,9 +30,6 @@ abbrev mutual
 abbrev pub patterns : List Pattern → Patterns
 patterns [] = no_pattern
 patterns (p ∷ ps) = pattern_before p (patterns ps)
-
-abbrev pub one_pattern : Pattern → Patterns
-one_pattern p = pattern_before p no_pattern
 
 -- How many patterns the list has, those inside nodes left aside.
 abbrev pub count : Patterns → ℕ

@@ -5,7 +5,8 @@ use Rattle.qs_pattern.specs.declared.variable.Var.{Var}
 use Rattle.qs_pattern.specs.Variables.{firsts}
 use Rattle.qs_pattern.specs.Patterns.{Patterns, count, cells, variables_in, AreInClass, NoForestAtTop}
 use Rattle.qs_pattern.specs.Limits.{most_patterns, most_cells, most_variables}
-use Rattle.qs_pattern.specs.Conditions.{Condition, condition_cells, condition_variables, IsConditionInClass, HasEnoughMembers}
+use Rattle.qs_pattern.specs.Conditions.{Condition, condition_cells, condition_variables, IsConditionInClass}
+use Rattle.qs_pattern.specs.Conditions.{HasEnoughMembers}
 
 -- A rule adds, beside a path of trees that its left side stands for, a path of the trees that its right side stands
 -- for, where its condition holds. It is marked unique or isn't. In a grammar whose rules are all unique, a firing with
@@ -66,7 +67,8 @@ rule_variables rule = variables_in rule.left ++ variables_behind rule
 abbrev pub rule_cells : UnmarkedRule → ℕ
 rule_cells rule = cells rule.left + cells rule.right + cells_if_given rule.condition
 
--- A side has 1 to `most_patterns` patterns, none of which is a forest variable, with each variable at a place of its class.
+-- A side has 1 to `most_patterns` patterns, none of which is a forest variable,
+-- with each variable at a place of its class.
 pub record IsSide (side : Patterns) : Type 0 where
   pub some : 1 ≤ count side
   pub at_most : count side ≤ most_patterns
@@ -74,8 +76,8 @@ pub record IsSide (side : Patterns) : Type 0 where
   pub in_class : AreInClass side
 
 -- A rule can be accepted that has two such sides, a condition in class that joins at least two wherever it joins, at
--- most `most_cells` labels and variables, at most `most_variables` different variables, and each variable of whose right
--- side and condition occurs in its left side.
+-- most `most_cells` labels and variables, at most `most_variables` different variables, and each variable of whose
+-- right side and condition occurs in its left side.
 pub record IsAcceptable (rule : UnmarkedRule) : Type 0 where
   pub left : IsSide rule.left
   pub right : IsSide rule.right

@@ -1,8 +1,10 @@
 //! Copies of patterns and of conditions.
 
 ghost use Rattle.std.specs.Prelude.{◌≡◌, option_map, IfOk};
-ghost use Rattle.qs_pattern.specs.Patterns.{one_pattern, patterns};
-ghost use Rattle.qs_pattern.specs.Conditions.{condition_of, conditions};
+ghost use Rattle.qs_pattern.specs.Patterns.{patterns};
+ghost use Rattle.qs_pattern.specs.working.Patterns.{one_pattern};
+ghost use Rattle.qs_pattern.specs.Conditions.{condition_of};
+ghost use Rattle.qs_pattern.specs.working.Conditions.{conditions};
 
 use crate::condition::Cond;
 use crate::pattern::Pattern;

@@ -6,7 +6,9 @@ ghost use Rattle.qs_tree.specs.Trees.{Tree};
 ghost use Rattle.qs_tree.specs.Cells.{tree_of, trees_of};
 ghost use Rattle.qs_pattern.specs.Patterns.{patterns};
 ghost use Rattle.qs_pattern.specs.Instances.{IsCovered};
-ghost use Rattle.qs_pattern.specs.Conditions.{within, outside, compared, condition_of, conditions, Holds, AllHold, SomeHolds, IsConditionCovered, AreConditionsCovered};
+ghost use Rattle.qs_pattern.specs.Conditions.{within, outside, compared, condition_of, Holds, AllHold, SomeHolds};
+ghost use Rattle.qs_pattern.specs.Conditions.{IsConditionCovered};
+ghost use Rattle.qs_pattern.specs.working.Conditions.{conditions, AreConditionsCovered};
 
 use crate::condition::Cond;
 use crate::instances::forest_of;

@@ -34,8 +34,8 @@ fn is_head_in_class(head: Head) -> bool
     }
 }
 
-/// Whether each variable of the patterns stands at a place of its class: a label variable as a head, a tree variable and a
-/// forest variable for themselves, at every depth. Takes no memory.
+/// Whether each variable of the patterns stands at a place of its class: a label variable as a head, a tree variable
+/// and a forest variable for themselves, at every depth. Takes no memory.
 pub fn are_in_class(side: &[Pattern]) -> bool
     ensures { IsTrue result ↔ AreInClass (patterns side.now) }
 {

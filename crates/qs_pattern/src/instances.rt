@@ -3,7 +3,8 @@
 ghost use Rattle.std.specs.Prelude.{◌≡◌, ◌++◌, ◌∷◌, [], OnOk, IfOk};
 ghost use Rattle.qs_pattern.specs.Instances.{inst, label_of, IsCovered, IsHeadCovered};
 ghost use Rattle.qs_pattern.specs.Patterns.{NoForestAtTop};
-ghost use Rattle.qs_pattern.specs.Patterns.{one_pattern, patterns};
+ghost use Rattle.qs_pattern.specs.Patterns.{patterns};
+ghost use Rattle.qs_pattern.specs.working.Patterns.{one_pattern};
 
 use crate::pattern::{Head, Pattern};
 use crate::subst::{Subst, Value};

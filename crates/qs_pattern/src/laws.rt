@@ -18,14 +18,17 @@ pub fn accepted_rules_are_in_class()
 /// A match of an accepted rule's left side gives each variable of its right side and of its condition a value of its
 /// class, as `instance` and `holds` ask.
 pub fn a_match_covers_its_rule()
-    ensures right { (rule : Rule) (trees : List Tree) (s : Substitution) → IsAccepted rule → IsMatch rule.left trees s → IsCovered s rule.right }
-    ensures condition { (rule : Rule) (trees : List Tree) (s : Substitution) (c : Condition) → IsAccepted rule → IsMatch rule.left trees s → rule.condition ≡ Some c → IsConditionCovered s c }
+    ensures right { (rule : Rule) (trees : List Tree) (s : Substitution) → IsAccepted rule → IsMatch rule.left trees s
+        → IsCovered s rule.right }
+    ensures condition { (rule : Rule) (trees : List Tree) (s : Substitution) (c : Condition) → IsAccepted rule
+        → IsMatch rule.left trees s → rule.condition ≡ Some c → IsConditionCovered s c }
 {}
 
-/// The trees that an accepted rule builds have no labels but those of its right side and of the trees that its left side
-/// matches: where all of these are among the first n, so are theirs.
+/// The trees that an accepted rule builds have no labels but those of its right side and of the trees that its left
+/// side matches: where all of these are among the first n, so are theirs.
 pub fn rules_make_no_labels()
-    ensures { (n : ℕ) (rule : Rule) → IsAccepted rule → ArePatternsNamed n rule.right → (ts : List Tree) (s : Substitution) → IsMatch rule.left ts s
+    ensures { (n : ℕ) (rule : Rule) → IsAccepted rule → ArePatternsNamed n rule.right
+        → (ts : List Tree) (s : Substitution) → IsMatch rule.left ts s
         → ((t : Tree) → t ∈ ts → IsNamed n t) → (t : Tree) → t ∈ inst s rule.right → IsNamed n t }
 {}
 

@@ -31,7 +31,7 @@ pub struct Rule {
 impl Model for Rule {
     ghost use Rattle.std.specs.Prelude.{option_map};
     ghost use Rattle.qs_pattern.specs.Rules.{Rule as RuleOfPatterns, IsAccepted};
-    ghost use Rattle.qs_pattern.specs.Codes.{rule_code};
+    ghost use Rattle.qs_pattern.specs.working.Codes.{rule_code};
     ghost use Rattle.qs_pattern.specs.Patterns.{patterns};
     ghost use Rattle.qs_pattern.specs.Conditions.{condition_of};
 
@@ -39,9 +39,19 @@ impl Model for Rule {
 
     ghost coded = { rule_code };
 
-    ghost view = { λ r. record { left = patterns r.left.items; right = patterns r.right.items; condition = option_map condition_of r.condition; unique = r.unique } };
+    ghost view = { λ r. record {
+      left = patterns r.left.items;
+      right = patterns r.right.items;
+      condition = option_map condition_of r.condition;
+      unique = r.unique;
+    } };
 
-    ghost invariant = { λ r. IsAccepted (record { left = patterns r.left.items; right = patterns r.right.items; condition = option_map condition_of r.condition; unique = r.unique }) };
+    ghost invariant = { λ r. IsAccepted (record {
+      left = patterns r.left.items;
+      right = patterns r.right.items;
+      condition = option_map condition_of r.condition;
+      unique = r.unique;
+    }) };
 }
 
 impl Rule {
@@ -54,8 +64,18 @@ impl Rule {
         condition: Option<Cond>,
         unique: bool,
     ) -> Rule
-        requires { IsAccepted (record { left = patterns left.items; right = patterns right.items; condition = option_map condition_of condition; unique = unique }) }
-        ensures { result ≡ record { left = patterns left.items; right = patterns right.items; condition = option_map condition_of condition; unique = unique } }
+        requires { IsAccepted (record {
+          left = patterns left.items;
+          right = patterns right.items;
+          condition = option_map condition_of condition;
+          unique = unique;
+        }) }
+        ensures { result ≡ record {
+          left = patterns left.items;
+          right = patterns right.items;
+          condition = option_map condition_of condition;
+          unique = unique;
+        } }
     {
         Rule {
             alloc,
@@ -92,7 +112,8 @@ impl Rule {
 
     /// Whether the rule is marked unique. Takes no memory.
     pub fn unique(&self) -> bool
-        ensures { result ≡ self.now.unique }
+        ensures value { result ≡ self.now.unique }
+        ensures accepted { IsAccepted self.now }
     {
         self.unique
     }

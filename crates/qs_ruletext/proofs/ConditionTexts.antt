@@ -5,9 +5,11 @@ use Rattle.qs_tree.proofs.Kept.{kept-further}
 use Rattle.std.proofs.lemmas.List.{drop_more, drop_all}
 use Rattle.std.specs.List.{flat_map}
 use Rattle.qs_pattern.specs.declared.condition.Cond.{Cond, All, Any}
-use Rattle.qs_pattern.specs.Conditions.{Condition, Conditions, all, any, combined, condition_of, conditions}
+use Rattle.qs_pattern.specs.Conditions.{Condition, Conditions, all, any, combined, condition_of}
+use Rattle.qs_pattern.specs.working.Conditions.{conditions}
 use Rattle.qs_pattern.proofs.ConditionLemmas.{condition-All, condition-Any}
-use Rattle.qs_pattern.specs.Named.{IsConditionNamed, AreConditionsNamed}
+use Rattle.qs_pattern.specs.Named.{IsConditionNamed}
+use Rattle.qs_pattern.specs.working.Named.{AreConditionsNamed}
 use Rattle.qs_ruletext.specs.Texts.{joined, word_of, tightness, member_text, member_texts, condition_text}
 
 -- these texts, each behind `between`, but the first behind `before`

@@ -8,8 +8,10 @@ use Rattle.qs_lex.specs.declared.token.Word.TheVariants.{Et, Ou, Non}
 use Rattle.qs_lex.specs.Spelling.{between_dashes, name_of}
 use Rattle.qs_lex.specs.Grammar.{sort_of}
 use Rattle.qs_pattern.specs.Patterns.{Patterns, count, AreInClass}
-use Rattle.qs_pattern.specs.Conditions.{Comparing, all, any, Condition, Conditions, compared, negated, combined, no_condition, condition_first, count_conditions, IsConditionInClass, EachListOfAll, HasEnoughMembers, HaveEnoughMembers}
-use Rattle.qs_pattern.specs.Named.{ArePatternsNamed, IsConditionNamed, AreConditionsNamed}
+use Rattle.qs_pattern.specs.Conditions.{Comparing, all, any, Condition, Conditions, compared, negated, combined, no_condition, condition_first, count_conditions, IsConditionInClass, HasEnoughMembers, HaveEnoughMembers}
+use Rattle.qs_pattern.specs.working.Conditions.{EachListOfAll}
+use Rattle.qs_pattern.specs.Named.{ArePatternsNamed, IsConditionNamed}
+use Rattle.qs_pattern.specs.working.Named.{AreConditionsNamed}
 use Rattle.qs_ruletext.specs.Reading.{comparing_word, ReadsList, any_of, all_of, ReadsCond, reads_cond, ReadsMoreConjs, no_more_conjs, one_more_conj, ReadsConj, reads_conj, ReadsMoreNegs, no_more_negs, one_more_neg, ReadsNeg, not_negated, reads_negated, ReadsPrim, reads_group, reads_compared}
 use Rattle.qs_ruletext.specs.Texts.{list_text, in_parentheses, member_text, member_texts, condition_text, spaced_word}
 use Rattle.qs_ruletext.specs.Written.{AreOnOneLine, HasFullLists, HaveFullLists}

@@ -3,9 +3,10 @@ use Rattle.std.proofs.Common.{◌≡◌, ℕ, refl, sym, ◌∙◌, ap, subst, L
 use Rattle.qs_lex.specs.declared.token.Token.{Token}
 use Rattle.qs_lex.specs.Grammar.{comma, plus}
 use Rattle.qs_pattern.specs.declared.pattern.Pattern.{Pattern, Node', Tree, Forest}
-use Rattle.qs_pattern.specs.Patterns.{Patterns, no_pattern, node_first, tree_var_first, forest_var_first, pattern_before, patterns, one_pattern}
+use Rattle.qs_pattern.specs.Patterns.{Patterns, no_pattern, node_first, tree_var_first, forest_var_first, pattern_before, patterns}
+use Rattle.qs_pattern.specs.working.Patterns.{one_pattern}
+use Rattle.qs_reader.specs.Readers.{Reads, AToken, a_token, Then, then}
 use Rattle.qs_ruletext.specs.Reading.{joined, ReadsTree, ReadsItem, ReadsList, reads_list, ReadsMoreItems, no_more_items, one_more_item, ReadsSide, reads_side, ReadsMoreTrees, no_more_trees, one_more_tree}
-use Rattle.qs_ruletext.specs.Cursors.{IsNext}
 
 pub joined-nil : (ps : Patterns) → joined ps no_pattern ≡ ps
 joined-nil no_pattern = refl
@@ -29,35 +30,31 @@ patterns_push [] p = refl
 patterns_push (q ∷ ps) p = ap (pattern_before q) (patterns_push ps p) ∙ sym (before_joined q (patterns ps) (one_pattern p))
 
 -- a list of which these items are read, and whatever is read behind them, is read whole
-abbrev pub CompletesList : List ℕ → List Token → List Token → Patterns → List (List ℕ) → Type 0
-CompletesList text tokens rest items names = (ps : Patterns) (end : List Token) → ReadsMoreItems names text rest ps end → ReadsList names text tokens (joined items ps) end
+abbrev pub CompletesList : Patterns → Reads
+CompletesList items names text ts rest = (ps : Patterns) (end : List Token) → ReadsMoreItems names text rest ps end → ReadsList names text ts (joined items ps) end
 
-pub list_first : (names : List (List ℕ)) (text : List ℕ) (tokens rest : List Token) (p items : Patterns) → items ≡ p
-    → ReadsItem names text tokens p rest → CompletesList text tokens rest items names
-list_first names text tokens rest p items e r ps end m = subst (λ q. ReadsList names text tokens (joined q ps) end) (sym e) (reads_list r m)
+pub list_first : {p : Patterns} (items : Patterns) → items ≡ p → (names : List (List ℕ)) (text : List ℕ) (ts rest : List Token) → ReadsItem names text ts p rest → CompletesList items names text ts rest
+list_first items e names text ts rest r ps end m = subst (λ q. ReadsList names text ts (joined q ps) end) (sym e) (reads_list r m)
 
-pub list_next : (names : List (List ℕ)) (text : List ℕ) (tokens rest after end : List Token) (items p longer : Patterns) → longer ≡ joined items p → IsNext comma rest after
-    → CompletesList text tokens rest items names → ReadsItem names text after p end → CompletesList text tokens end longer names
-list_next names text tokens rest after end items p longer e n before r ps last m =
-    let more : ReadsMoreItems names text rest (joined p ps) last = subst (λ us. ReadsMoreItems names text us (joined p ps) last) (sym n.1) (one_more_item n.2 r m) in
-    subst (λ q. ReadsList names text tokens q last) (sym (ap (λ q. joined q ps) e ∙ joined-assoc items p ps)) (before (joined p ps) last more)
+pub list_next : {p : Patterns} (items longer : Patterns) → longer ≡ joined items p → (names : List (List ℕ)) (text : List ℕ) (ts us rest : List Token)
+    → CompletesList items names text ts us → Then (AToken comma) (λ names text ts rest. ReadsItem names text ts p rest) names text us rest → CompletesList longer names text ts rest
+list_next {p} items longer e names text ts us rest before (then (a_token c) r) ps end m =
+    subst (λ q. ReadsList names text ts q end) (sym (ap (λ q. joined q ps) e ∙ joined-assoc items p ps)) (before (joined p ps) end (one_more_item c r m))
 
-pub list_last : (names : List (List ℕ)) (text : List ℕ) (tokens rest : List Token) (items : Patterns) → CompletesList text tokens rest items names → ReadsList names text tokens items rest
-list_last names text tokens rest items whole = subst (λ q. ReadsList names text tokens q rest) (joined-nil items) (whole no_pattern rest no_more_items)
+pub list_last : {items : Patterns} (names : List (List ℕ)) (text : List ℕ) (ts rest : List Token) → CompletesList items names text ts rest → ReadsList names text ts items rest
+list_last {items} names text ts rest whole = subst (λ q. ReadsList names text ts q rest) (joined-nil items) (whole no_pattern rest no_more_items)
 
 -- the like for a side
-abbrev pub CompletesSide : List ℕ → List Token → List Token → Patterns → List (List ℕ) → Type 0
-CompletesSide text tokens rest trees names = (ps : Patterns) (end : List Token) → ReadsMoreTrees names text rest ps end → ReadsSide names text tokens (joined trees ps) end
+abbrev pub CompletesSide : Patterns → Reads
+CompletesSide trees names text ts rest = (ps : Patterns) (end : List Token) → ReadsMoreTrees names text rest ps end → ReadsSide names text ts (joined trees ps) end
 
-pub side_first : (names : List (List ℕ)) (text : List ℕ) (tokens rest : List Token) (p trees : Patterns) → trees ≡ p
-    → ReadsTree names text tokens p rest → CompletesSide text tokens rest trees names
-side_first names text tokens rest p trees e r ps end m = subst (λ q. ReadsSide names text tokens (joined q ps) end) (sym e) (reads_side r m)
+pub side_first : {p : Patterns} (trees : Patterns) → trees ≡ p → (names : List (List ℕ)) (text : List ℕ) (ts rest : List Token) → ReadsTree names text ts p rest → CompletesSide trees names text ts rest
+side_first trees e names text ts rest r ps end m = subst (λ q. ReadsSide names text ts (joined q ps) end) (sym e) (reads_side r m)
 
-pub side_next : (names : List (List ℕ)) (text : List ℕ) (tokens rest after end : List Token) (trees p longer : Patterns) → longer ≡ joined trees p → IsNext plus rest after
-    → CompletesSide text tokens rest trees names → ReadsTree names text after p end → CompletesSide text tokens end longer names
-side_next names text tokens rest after end trees p longer e n before r ps last m =
-    let more : ReadsMoreTrees names text rest (joined p ps) last = subst (λ us. ReadsMoreTrees names text us (joined p ps) last) (sym n.1) (one_more_tree n.2 r m) in
-    subst (λ q. ReadsSide names text tokens q last) (sym (ap (λ q. joined q ps) e ∙ joined-assoc trees p ps)) (before (joined p ps) last more)
+pub side_next : {p : Patterns} (trees longer : Patterns) → longer ≡ joined trees p → (names : List (List ℕ)) (text : List ℕ) (ts us rest : List Token)
+    → CompletesSide trees names text ts us → Then (AToken plus) (λ names text ts rest. ReadsTree names text ts p rest) names text us rest → CompletesSide longer names text ts rest
+side_next {p} trees longer e names text ts us rest before (then (a_token c) r) ps end m =
+    subst (λ q. ReadsSide names text ts q end) (sym (ap (λ q. joined q ps) e ∙ joined-assoc trees p ps)) (before (joined p ps) end (one_more_tree c r m))
 
-pub side_last : (names : List (List ℕ)) (text : List ℕ) (tokens rest : List Token) (trees : Patterns) → CompletesSide text tokens rest trees names → ReadsSide names text tokens trees rest
-side_last names text tokens rest trees whole = subst (λ q. ReadsSide names text tokens q rest) (joined-nil trees) (whole no_pattern rest no_more_trees)
+pub side_last : {trees : Patterns} (names : List (List ℕ)) (text : List ℕ) (ts rest : List Token) → CompletesSide trees names text ts rest → ReadsSide names text ts trees rest
+side_last {trees} names text ts rest whole = subst (λ q. ReadsSide names text ts q rest) (joined-nil trees) (whole no_pattern rest no_more_trees)

@@ -22,15 +22,9 @@ use Rattle.qs_pattern.specs.declared.variable.Var.{Var}
 use Rattle.qs_ruletext.specs.Reading.{IsLabelOf, IsVariableOf}
 use Rattle.qs_ruletext.specs.Rules.{KeepsNames}
 use Rattle.qs_ruletext.specs.Names.{AddsName, AddsNameOf, NamesGrow}
-use Rattle.qs_ruletext.specs.Cursors.{IsGood, Readable}
-use Rattle.qs_ruletext.proofs.RulesRead.{spelled_good}
-
--- a variable of some kind
-abbrev pub is_variable : Sort → Bool
-is_variable a_label_variable = true
-is_variable a_tree_variable = true
-is_variable a_forest_variable = true
-is_variable _ = false
+use Rattle.qs_ruletext.specs.Cursors.{Readable}
+pub use Rattle.qs_ruletext.specs.Readers.{IsGood, is_variable}
+use Rattle.qs_ruletext.proofs.SideSteps.{spelled_good}
 
 -- in these names the token has a number where it is a label, and it is a variable where its sort says so
 pub record IsKnown (names : List (List ℕ)) (text : List ℕ) (t : Token) : Type 0 where

@@ -1,12 +1,10 @@
 pub mod ComparingWords
 pub mod Tables
 pub mod Naming
-pub mod Repeating
 pub mod SideSteps
 pub mod Growing
 pub mod ConditionSteps
 pub mod RuleSteps
-pub mod Ending
 pub mod Whole
 pub mod FullLists
 pub mod Told

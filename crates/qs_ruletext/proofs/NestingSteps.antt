@@ -11,7 +11,7 @@ use Rattle.qs_lex.specs.Nesting.{open_behind}
 use Rattle.qs_pattern.specs.declared.pattern.Head.{Head}
 use Rattle.qs_pattern.specs.declared.pattern.Head.TheVariants as head
 use Rattle.qs_ruletext.specs.Reading.{IsHeadOf}
-use Rattle.qs_ruletext.proofs.SideSteps.{label_sort}
+use Rattle.qs_reader.proofs.Tokens.{label_sort}
 use Rattle.qs_ruletext.proofs.Nesting.{Fits}
 
 -- how many are open behind a token of this sort

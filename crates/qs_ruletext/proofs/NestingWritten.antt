@@ -11,8 +11,10 @@ use Rattle.qs_lex.specs.Grammar.{Sort, a_tree_variable, a_forest_variable, sort_
 use Rattle.qs_pattern.specs.declared.variable.Var.{Var}
 use Rattle.qs_pattern.specs.declared.pattern.Head.{Head}
 use Rattle.qs_pattern.specs.Patterns.{Patterns, no_pattern, node_first, tree_var_first, forest_var_first, IsHeadInClass, AreInClass}
-use Rattle.qs_pattern.specs.Conditions.{Condition, Conditions, compared, negated, combined, no_condition, condition_first, IsConditionInClass, EachListOfAll}
-use Rattle.qs_pattern.specs.Named.{IsHeadNamed, ArePatternsNamed, IsConditionNamed, AreConditionsNamed}
+use Rattle.qs_pattern.specs.Conditions.{Condition, Conditions, compared, negated, combined, no_condition, condition_first, IsConditionInClass}
+use Rattle.qs_pattern.specs.working.Conditions.{EachListOfAll}
+use Rattle.qs_pattern.specs.Named.{IsHeadNamed, ArePatternsNamed, IsConditionNamed}
+use Rattle.qs_pattern.specs.working.Named.{AreConditionsNamed}
 use Rattle.qs_pattern.specs.Rules.{UnmarkedRule}
 use Rattle.qs_ruletext.specs.Rules.{IsWellReadIfGiven, IsWellRead}
 use Rattle.qs_ruletext.specs.Reading.{comparing_word}

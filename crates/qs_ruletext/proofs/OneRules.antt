@@ -16,7 +16,7 @@ use Rattle.qs_ruletext.specs.Grammar.{Part, rule, tree, line}
 use Rattle.qs_ruletext.specs.Reading.{IsHeadOf, ReadsTree, reads_node, reads_tree_variable, ReadsSide, reads_side}
 use Rattle.qs_ruletext.specs.Rules.{ReadsCondIfGiven, no_cond, some_cond, ReadsRule, reads_rule, ReadsWrittenRule, ReadsRules, cell_bytes, NoRuleAt}
 use Rattle.qs_ruletext.specs.Endings.{NoRuleIn}
-use Rattle.qs_ruletext.proofs.SideSteps.{label_sort}
+use Rattle.qs_reader.proofs.Tokens.{label_sort}
 use Rattle.qs_ruletext.proofs.OneReading.{after_side, after_cond, fails_for, one_sort, same_rest, same_token, one_side, one_cond}
 
 -- what is read as a rule has a first token, and that begins a rule

@@ -7,7 +7,8 @@ use Rattle.std.specs.List.{flat_map}
 use Rattle.std.specs.declared.vec.Vec.{Vec}
 use Rattle.qs_pattern.specs.declared.pattern.Head.{Head}
 use Rattle.qs_pattern.specs.declared.pattern.Pattern.{Pattern, Node, Node', Tree, Forest}
-use Rattle.qs_pattern.specs.Patterns.{Patterns, no_pattern, pattern_before, patterns, one_pattern}
+use Rattle.qs_pattern.specs.Patterns.{Patterns, no_pattern, pattern_before, patterns}
+use Rattle.qs_pattern.specs.working.Patterns.{one_pattern}
 use Rattle.qs_pattern.proofs.PatternLemmas.{pattern-Node}
 use Rattle.qs_pattern.specs.Named.{IsHeadNamed, ArePatternsNamed}
 use Rattle.qs_ruletext.specs.Texts.{joined, head_text, kids_text, pattern_text, pattern_texts}

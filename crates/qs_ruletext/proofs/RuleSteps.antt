@@ -1,155 +1,157 @@
--- The steps of the reader of a rule.
-use Rattle.std.proofs.Common.{◌≡◌, ℕ, ◌+◌, ◌-◌, false, refl, sym, ◌∙◌, ap, subst, List, [], ◌∷◌, ◌++◌, length, take, arith, Option, Some, None, length-append}
-use Rattle.std.proofs.Math.Seq.{take-append_seam}
+-- The steps of the reader of a rule, and what holds between two rules that are read.
+use Rattle.std.proofs.Common.{◌≡◌, ℕ, zero, suc, ◌+◌, ◌-◌, ◌<◌, ◌≤◌, refl, sym, ◌∙◌, ap, subst, ⊎_elim, List, [], ◌∷◌, ◌++◌, length, take, drop, arith, Option, Some, None, append_assoc, append-nil, length-drop}
+use Rattle.std.specs.Prelude.{slice_get}
+use Rattle.std.proofs.lemmas.Bool.{false≢true}
 use Rattle.qs_lex.specs.declared.token.Token.{Token}
-use Rattle.qs_lex.specs.declared.token.Word.TheVariants.{Et, Ou}
-use Rattle.qs_lex.specs.Grammar.{Sort, opening, comma, plus, slash, equals, stop, the_word, Form, one, part, ◌·◌, optional}
-use Rattle.qs_lex.specs.Expecting.{starts, same_sort, NextIsNo, Leads}
-use Rattle.qs_lex.proofs.Going.{leads_on, leads_part, leads_sequence, leads_without, leads_with}
+use Rattle.qs_lex.specs.Grammar.{equals, slash, stop, part, repeated, ◌·◌, one, sort_of, IsWhole, Begins, begins_token, begins_part, begins_first, begins_this, begins_other}
+use Rattle.qs_lex.specs.Expecting.{NextIsNo}
+use Rattle.qs_lex.proofs.Expected.{begin_front}
 use Rattle.qs_pattern.specs.Patterns.{Patterns}
 use Rattle.qs_pattern.specs.Conditions.{Condition}
+use Rattle.qs_pattern.specs.Rules.{UnmarkedRule}
+use Rattle.qs_reader.specs.declared.text_end.TextEnd.{TextEnd}
+use Rattle.qs_reader.specs.declared.text_end.TextEnd.TheVariants.{Syntax, Memory}
+use Rattle.qs_reader.specs.Names.{KeepsNames}
+use Rattle.qs_reader.specs.Readers.{Reading, rest_of, Passes, Stays, EndsHere, Reads, AToken, a_token, Nothing, nothing, Then, then, StopsOr, between}
+use Rattle.qs_reader.specs.Readers as begun
+use Rattle.qs_reader.proofs.Steps.{token_read, left_out_read, then_read, read_so, read_at, member_read, part_read, token_ends, part_ends, first_ends, then_ends, member_ends}
+use Rattle.qs_reader.proofs.Between.{between_drop, next_at, at_next, cannot_go_on}
 use Rattle.qs_ruletext.specs.WrittenRules.{WrittenRule}
-use Rattle.qs_ruletext.specs.declared.cursor.Halt.{Halt}
-use Rattle.qs_ruletext.specs.declared.cursor.Halt.TheVariants.{Syntax}
-use Rattle.qs_ruletext.specs.Grammar.{Part, rule, side, cond, line}
+use Rattle.qs_ruletext.specs.Grammar.{rule, side, cond, line}
 use Rattle.qs_ruletext.specs.Reading.{ReadsSide, ReadsCond}
-use Rattle.qs_ruletext.specs.Rules.{cell_bytes, ReadsCondIfGiven, no_cond, some_cond, ReadsRule, reads_rule, ReadsWrittenRule, KeepsNames}
-use Rattle.qs_ruletext.specs.Cursors.{table, Readable, IsNext, Passes, Ends, IsRead}
-use Rattle.qs_ruletext.proofs.Tables.{ok, next_is_no, not_at_end, token, readable_rest, next_length, ends_on, ends_here}
-use Rattle.qs_ruletext.proofs.Naming.{no_names, names_on, sign_names}
+use Rattle.qs_ruletext.specs.Rules.{cell_bytes, ReadsCondIfGiven, no_cond, some_cond, ReadsRule, reads_rule, ReadsWrittenRule, ReadsRules, NoRuleAt, EndsFrom}
+use Rattle.qs_ruletext.specs.Readers.{table, begins_tree, IsTreeSort, BeginsTree, IsRead, IsReadSoFar, Ends, condition_if_any}
+use Rattle.qs_ruletext.proofs.Tables.{more, all_ok}
+use Rattle.qs_ruletext.proofs.Whole.{rules_whole}
 
 -- the condition, if one stands here
-abbrev pub IfGiven : Form Part
-IfGiven = optional (one slash · part cond)
+none_given : (names : List (List ℕ)) (text : List ℕ) (ts rest : List Token) → Nothing names text ts rest → ReadsCondIfGiven names text ts None rest
+none_given names text ts rest nothing = no_cond
 
-abbrev pub IfGivenEnds : List Sort
-IfGivenEnds = slash ∷ the_word Ou ∷ the_word Et ∷ comma ∷ opening ∷ []
+pub read_no_cond : {r s : Reading} (names : List (List ℕ)) → Stays slash r s → IsRead condition_if_any (λ names text ts rest. ReadsCondIfGiven names text ts None rest) r s names names
+read_no_cond names st = read_so none_given (left_out_read names st.none st)
 
-abbrev pub CondEnds : List Sort
-CondEnds = the_word Ou ∷ the_word Et ∷ comma ∷ opening ∷ []
+some_given : {c : Condition} (names : List (List ℕ)) (text : List ℕ) (ts rest : List Token) → Then (AToken slash) (λ names text ts rest. ReadsCond names text ts c rest) names text ts rest → ReadsCondIfGiven names text ts (Some c) rest
+some_given names text ts rest (then (a_token s) c) = some_cond s c
 
-to_cond : (behind : List (Form Part)) (ts after : List Token) → starts table behind slash ≡ false → IsNext slash ts after → Leads line (IfGiven ∷ behind) ts (part cond ∷ behind) after
-to_cond behind ts after shut n =
-    leads_on (leads_with (one slash · part cond) behind ts ok (not_at_end slash ts after behind n) (next_is_no (starts table behind) slash ts after shut n))
-    (leads_on (leads_sequence line (one slash) (part cond) behind ts)
-    (token slash (part cond ∷ behind) ts after n))
+pub read_some_cond : {c : Condition} {r s u : Reading} {old new : List (List ℕ)} → Passes slash r s → IsRead (part cond) (λ names text ts rest. ReadsCond names text ts c rest) s u old new
+    → IsRead condition_if_any (λ names text ts rest. ReadsCondIfGiven names text ts (Some c) rest) r u old new
+read_some_cond {old} p a = read_so some_given (member_read (then_read (token_read old refl p) a))
 
-pub read_no_cond : (text : List ℕ) (names : List (List ℕ)) (ts : List Token) → Readable text ts → NextIsNo (same_sort slash) ts
-    → IsRead IfGiven IfGivenEnds (λ later. ReadsCondIfGiven later text ts None ts) text ts ts names names
-read_no_cond text names ts r n =
-    record {
-      reads = λ later k. no_cond;
-      passes = λ behind f. leads_without (one slash · part cond) behind ts ok refl n;
-      readable = r;
-      names = no_names text ts names;
-      room = omega arith;
-      no_longer = omega arith;
-    }
-
-pub read_some_cond : (text : List ℕ) (old new : List (List ℕ)) (ts after rest : List Token) (c : Condition) → IsNext slash ts after
-    → IsRead (part cond) CondEnds (λ later. ReadsCond later text after c rest) text after rest old new
-    → IsRead IfGiven IfGivenEnds (λ later. ReadsCondIfGiven later text ts (Some c) rest) text ts rest old new
-read_some_cond text old new ts after rest c n found =
-    let shorter = next_length slash ts after n in
-    record {
-      reads = λ later k. subst (λ us. ReadsCondIfGiven later text us (Some c) rest) (sym n.1) (some_cond n.2 (found.reads later k));
-      passes = λ behind f. leads_on (to_cond behind ts after f.0 n) (found.passes behind f.1);
-      readable = found.readable;
-      names = names_on text ts after rest old old new (sign_names slash text ts after old refl n) found.names;
-      room = omega (arith, shorter, found.room);
-      no_longer = omega (arith, shorter, found.no_longer);
-    }
-
-pub ends_in_cond : (ts after : List Token) (halt : Halt) → IsNext slash ts after → Ends (part cond) CondEnds after halt → Ends IfGiven IfGivenEnds ts halt
-ends_in_cond ts after halt n e = ends_on IfGiven (part cond) IfGivenEnds CondEnds ts after halt (λ behind f. (behind, f.1, to_cond behind ts after f.0 n)) e
+pub ends_in_cond : {r s : Reading} {end : TextEnd} → Passes slash r s → Ends (part cond) s end → Ends condition_if_any r end
+ends_in_cond p e = member_ends p e
 
 -- a rule
-abbrev pub SideEnds : List Sort
-SideEnds = plus ∷ opening ∷ []
+abbrev IsSide : Patterns → Reads
+IsSide side names text ts rest = ReadsSide names text ts side rest
 
-abbrev Behind : Form Part
-Behind = IfGiven · one stop
+abbrev IsGiven : Option Condition → Reads
+IsGiven c names text ts rest = ReadsCondIfGiven names text ts c rest
 
-abbrev RightOn : Form Part
-RightOn = part side · Behind
+a_rule : {left right : Patterns} {c : Option Condition} (names : List (List ℕ)) (text : List ℕ) (ts rest : List Token)
+    → Then (IsSide left) (Then (AToken equals) (Then (IsSide right) (Then (IsGiven c) (AToken stop)))) names text ts rest → ReadsRule names text ts (record { left = left; right = right; condition = c }) rest
+a_rule names text ts rest (then l (then (a_token e) (then r (then g (a_token s))))) = reads_rule l e r g s
 
-to_left : (behind : List (Form Part)) (ts : List Token) → Leads line (part rule ∷ behind) ts (part side ∷ (one equals · RightOn) ∷ behind) ts
-to_left behind ts = leads_on (leads_part line rule behind ts) (leads_sequence line (part side) (one equals · RightOn) behind ts)
+module _ {L : Reads} {r s : Reading} {old first : List (List ℕ)} (left : IsRead (part side) L r s old first) where
+  pub ends_at_equals : {end : TextEnd} → EndsHere equals s end → Ends (part rule) r end
+  ends_at_equals e = part_ends (then_ends left (first_ends (token_ends e)))
 
-to_equals : (behind : List (Form Part)) (ts end : List Token) → Passes (part side) SideEnds ts end → Leads line (part rule ∷ behind) ts (one equals ∷ RightOn ∷ behind) end
-to_equals behind ts end p =
-    leads_on (to_left behind ts) (leads_on (p ((one equals · RightOn) ∷ behind) (refl, (refl, tt))) (leads_sequence line (one equals) RightOn behind end))
+  module _ {u : Reading} (p : Passes equals s u) where
+    pub ends_in_right : {end : TextEnd} → Ends (part side) u end → Ends (part rule) r end
+    ends_in_right e = part_ends (then_ends left (then_ends (token_read first refl p) (first_ends e)))
 
-to_right : (behind : List (Form Part)) (ts end after : List Token) → Passes (part side) SideEnds ts end → IsNext equals end after
-    → Leads line (part rule ∷ behind) ts (part side ∷ Behind ∷ behind) after
-to_right behind ts end after p n =
-    leads_on (to_equals behind ts end p) (leads_on (token equals (RightOn ∷ behind) end after n) (leads_sequence line (part side) Behind behind after))
+    module _ {R : Reads} {v : Reading} {second : List (List ℕ)} (right : IsRead (part side) R u v first second) where
+      pub ends_in_given : {end : TextEnd} → Ends condition_if_any v end → Ends (part rule) r end
+      ends_in_given e = part_ends (then_ends left (then_ends (token_read first refl p) (then_ends right (first_ends e))))
 
-to_given : (behind : List (Form Part)) (ts end after middle : List Token) → Passes (part side) SideEnds ts end → IsNext equals end after → Passes (part side) SideEnds after middle
-    → Leads line (part rule ∷ behind) ts (IfGiven ∷ one stop ∷ behind) middle
-to_given behind ts end after middle p n q =
-    leads_on (to_right behind ts end after p n) (leads_on (q (Behind ∷ behind) (refl, (refl, tt))) (leads_sequence line IfGiven (one stop) behind middle))
+      pub ends_at_stop : {G : Reads} {w : Reading} {new : List (List ℕ)} {end : TextEnd} → IsRead condition_if_any G v w second new → EndsHere stop w end → Ends (part rule) r end
+      ends_at_stop given e = part_ends (then_ends left (then_ends (token_read first refl p) (then_ends right (then_ends given (token_ends e)))))
 
-to_stop : (behind : List (Form Part)) (ts end after middle last : List Token) → Passes (part side) SideEnds ts end → IsNext equals end after → Passes (part side) SideEnds after middle
-    → Passes IfGiven IfGivenEnds middle last → Leads line (part rule ∷ behind) ts (one stop ∷ behind) last
-to_stop behind ts end after middle last p n q r =
-    leads_on (to_given behind ts end after middle p n q) (r (one stop ∷ behind) (refl, (refl, (refl, (refl, (refl, tt))))))
+pub ends_in_left : {r : Reading} {end : TextEnd} → Ends (part side) r end → Ends (part rule) r end
+ends_in_left e = part_ends (first_ends e)
 
-pub ends_in_left : (ts : List Token) (halt : Halt) → Ends (part side) SideEnds ts halt → Ends (part rule) [] ts halt
-ends_in_left ts halt e = ends_on (part rule) (part side) [] SideEnds ts ts halt (λ behind f. ((one equals · RightOn) ∷ behind, (refl, (refl, tt)), to_left behind ts)) e
+pub read_rule : {left right : Patterns} {c : Option Condition} {r s u v w x : Reading} {old first second new : List (List ℕ)} (raw : WrittenRule)
+    → raw.rule ≡ record { left = left; right = right; condition = c } → raw.at ≡ cell_bytes (between x.tokens r.place x.place)
+    → IsRead (part side) (λ names text ts rest. ReadsSide names text ts left rest) r s old first → Passes equals s u
+    → IsRead (part side) (λ names text ts rest. ReadsSide names text ts right rest) u v first second
+    → IsRead condition_if_any (λ names text ts rest. ReadsCondIfGiven names text ts c rest) v w second new → Passes stop w x
+    → IsRead (part rule) (λ names text ts rest. ReadsWrittenRule names text ts raw rest) r x old new
+read_rule {r} {x} {first} {new} raw e at l p m g q =
+    let whole = read_so a_rule (then_read l (then_read (token_read first refl p) (then_read m (then_read g (token_read new refl q))))) in
+    let on = whole.goes_on in
+    part_read
+    (read_at (λ w. w)
+    (λ later rule. record {
+      rule = subst (λ q. ReadsRule later r.text (rest_of r) q (rest_of x)) (sym e) rule;
+      tokens = between x.tokens r.place x.place;
+      are = sym (between_drop x.tokens r.place x.place on.forward ∙ ap (drop r.place) on.tokens);
+      at = at;
+    })
+    whole)
 
-pub ends_at_equals : (ts end : List Token) → Passes (part side) SideEnds ts end → NextIsNo (same_sort equals) end → Ends (part rule) [] ts (Syntax (length end))
-ends_at_equals ts end p n = ends_here (part rule) [] ts end (λ behind f. (one equals ∷ RightOn ∷ behind, to_equals behind ts end p, n, refl))
+-- these rules are read, and whatever is read behind them is read with them
+abbrev pub CompletesRules : List WrittenRule → Reads
+CompletesRules rules names text ts rest = (raws : List WrittenRule) (end : List Token) → ReadsRules names text rest raws end → ReadsRules names text ts (rules ++ raws) end
 
-pub ends_in_right : (ts end after : List Token) (halt : Halt) → Passes (part side) SideEnds ts end → IsNext equals end after → Ends (part side) SideEnds after halt → Ends (part rule) [] ts halt
-ends_in_right ts end after halt p n e = ends_on (part rule) (part side) [] SideEnds ts after halt (λ behind f. (Behind ∷ behind, (refl, (refl, tt)), to_right behind ts end after p n)) e
+pub rules_none : (rules : List WrittenRule) (names : List (List ℕ)) (text : List ℕ) (ts : List Token) → rules ≡ [] → CompletesRules rules names text ts ts
+rules_none rules names text ts e raws end r = subst (λ x. ReadsRules names text ts (x ++ raws) end) (sym e) r
 
-pub ends_in_given : (ts end after middle : List Token) (halt : Halt) → Passes (part side) SideEnds ts end → IsNext equals end after → Passes (part side) SideEnds after middle
-    → Ends IfGiven IfGivenEnds middle halt → Ends (part rule) [] ts halt
-ends_in_given ts end after middle halt p n q e =
-    ends_on (part rule) IfGiven [] IfGivenEnds ts middle halt (λ behind f. (one stop ∷ behind, (refl, (refl, (refl, (refl, (refl, tt))))), to_given behind ts end after middle p n q)) e
+pub rules_next : {raw : WrittenRule} (rules longer : List WrittenRule) → longer ≡ rules ++ raw ∷ [] → (names : List (List ℕ)) (text : List ℕ) (ts us rest : List Token)
+    → CompletesRules rules names text ts us → ReadsWrittenRule names text us raw rest → CompletesRules longer names text ts rest
+rules_next {raw} rules longer e names text ts us rest before r raws end m =
+    subst (λ x. ReadsRules names text ts x end) (sym (ap (λ x. x ++ raws) e ∙ append_assoc rules (raw ∷ []) raws)) (before (raw ∷ raws) end (rest, r, m))
 
-pub ends_at_stop : (ts end after middle last : List Token) → Passes (part side) SideEnds ts end → IsNext equals end after → Passes (part side) SideEnds after middle
-    → Passes IfGiven IfGivenEnds middle last → NextIsNo (same_sort stop) last → Ends (part rule) [] ts (Syntax (length last))
-ends_at_stop ts end after middle last p n q r m = ends_here (part rule) [] ts last (λ behind f. (one stop ∷ behind, to_stop behind ts end after middle last p n q r, m, refl))
+tree_begins_rule : (t : Token) → IsTreeSort (sort_of t.kind) → Begins line (part rule) (t ∷ [])
+tree_begins_rule t of_sort =
+    begins_part (begins_first (begins_part (begins_first (begins_part
+    (⊎_elim (λ a. begins_this (begins_first (begins_this (begins_token a))))
+    (λ others. ⊎_elim (λ b. begins_this (begins_first (begins_other (begins_token b)))) (λ c. begins_other (begins_token c)) others) of_sort)))))
 
--- the tokens before the rest
-pub front_is : {X : Type 0} (ts passed rest : List X) → ts ≡ passed ++ rest → take (length ts - length rest) ts ≡ passed
-front_is ts passed rest e =
-    let long : length ts ≡ length passed + length rest = ap length e ∙ length-append passed rest in
-    let n : length ts - length rest ≡ length passed = omega (arith, long) in
-    ap (λ k. take k ts) n ∙ ap (take (length passed)) e ∙ take-append_seam passed rest
+less_unless : (m n : ℕ) → m ≤ n → (m ≡ n → ⊥) → m < n
+less_unless zero zero le differs = absurd (differs refl)
+less_unless zero (suc n) le differs = omega arith
+less_unless (suc m) zero le differs = absurd (omega (arith, le))
+less_unless (suc m) (suc n) le differs = let less = less_unless m n (omega (arith, le)) (λ e. differs (ap suc e)) in omega (arith, less)
 
-pub read_rule : (text : List ℕ) (old first second new : List (List ℕ)) (ts end after middle last rest : List Token) (left right : Patterns) (condition : Option Condition) (raw : WrittenRule)
-    → raw.rule ≡ record { left = left; right = right; condition = condition } → raw.at ≡ cell_bytes (take (length ts - length rest) ts)
-    → IsRead (part side) SideEnds (λ later. ReadsSide later text ts left end) text ts end old first → IsNext equals end after
-    → KeepsNames first second → IsRead (part side) SideEnds (λ later. ReadsSide later text after right middle) text after middle first second
-    → KeepsNames second new → IsRead IfGiven IfGivenEnds (λ later. ReadsCondIfGiven later text middle condition last) text middle last second new
-    → IsNext stop last rest
-    → IsRead (part rule) [] (λ later. ReadsWrittenRule later text ts raw rest) text ts rest old new
-read_rule text old first second new ts end after middle last rest left right condition raw e at one_side n k1 other_side k2 given m =
-    let outer = next_length equals end after n in
-    let inner = next_length stop last rest m in
-    let passes : Passes (part rule) [] ts rest = λ behind f. leads_on (to_stop behind ts end after middle last one_side.passes n other_side.passes given.passes) (token stop behind last rest m) in
-    let all = passes [] tt in
-    record {
-      reads = λ later k.
-          let l : ReadsSide later text ts left (n.0 ∷ after) = subst (λ us. ReadsSide later text ts left us) n.1 (one_side.reads later (λ j x i. k j x (k2 j x (k1 j x i)))) in
-          let r = other_side.reads later (λ j x i. k j x (k2 j x i)) in
-          let g : ReadsCondIfGiven later text middle condition (m.0 ∷ rest) = subst (λ us. ReadsCondIfGiven later text middle condition us) m.1 (given.reads later k) in
-          record {
-            rule = subst (λ q. ReadsRule later text ts q rest) (sym e) (reads_rule l n.2 r g m.2);
-            tokens = take (length ts - length rest) ts;
-            are = subst (λ us. ts ≡ us ++ rest) (sym (front_is ts all.passed rest all.are)) all.are;
-            at = at;
-          };
-      passes = passes;
-      readable = readable_rest text last rest m.0 m.1 given.readable;
-      names =
-          names_on text ts end rest old first new one_side.names
-          (names_on text end after rest first first new (sign_names equals text end after first refl n)
-          (names_on text after middle rest first second new other_side.names
-          (names_on text middle last rest second new new given.names (sign_names stop text last rest new refl m))));
-      room = omega (arith, outer, inner, one_side.room, other_side.room, given.room);
-      no_longer = omega (arith, outer, inner, one_side.no_longer, other_side.no_longer, given.no_longer);
-    }
+module _ {text : List ℕ} {tokens : List Token} {from : ℕ} {rules : List WrittenRule} {s : Reading} {old new : List (List ℕ)}
+    (so_far : IsReadSoFar (repeated (part rule)) (part rule) (CompletesRules rules) (record { text = text; tokens = tokens; place = from }) s old new) where
+  -- what stands behind them, by the place
+  behind : rest_of s ≡ drop s.place tokens
+  behind = ap (drop s.place) so_far.goes_on.tokens
+
+  pub all_read : (later : List (List ℕ)) → KeepsNames new later → ReadsRules later text (drop from tokens) rules (drop s.place tokens)
+  all_read later keeps =
+      subst (λ us. ReadsRules later text (drop from tokens) rules us) behind
+      (subst (λ x. ReadsRules later text (drop from tokens) x (rest_of s)) (append-nil rules) (so_far.reads later keeps [] (rest_of s) refl))
+
+  pub all_whole : IsWhole line (repeated (part rule)) (drop from tokens) (drop s.place tokens)
+  all_whole = rules_whole new text (drop from tokens) (drop s.place tokens) rules (all_read new (λ k t i. i))
+
+  pub no_rule_behind : NextIsNo begins_tree (rest_of s) → NoRuleAt tokens s.place
+  no_rule_behind n t here b =
+      let next = at_next tokens s.place t here in
+      false≢true (sym (subst (λ us. NextIsNo begins_tree us) (behind ∙ next.1) n) ∙ begin_front table all_ok.table_is b)
+
+  -- a rule that begins here and stops
+  stops_behind : BeginsTree s → (end : TextEnd) → StopsOr line table (part rule) s end → EndsFrom tokens from end
+  stops_behind begins Memory e = tt
+  stops_behind begins (Syntax at) e =
+      let c = subst (λ us. begun.CannotGoOn line (part rule) us s.place at) so_far.goes_on.tokens (cannot_go_on table more all_ok (part rule) tt (λ k. refl) e) in
+      let past : s.place ≡ at → ⊥ =
+      λ same.
+          let there : slice_get tokens at ≡ Some begins.token = next_at tokens begins.next.behind at begins.token (ap (λ k. drop k tokens) (sym same) ∙ sym behind ∙ begins.next.are) in
+          let none : between tokens s.place at ≡ [] = ap (λ k. take k (drop s.place tokens)) (let gone : at - s.place ≡ 0 = omega (arith, same) in gone) in
+          c.no_further begins.token there (subst (λ us. Begins line (part rule) (us ++ begins.token ∷ [])) (sym none) (tree_begins_rule begins.token begins.of_sort))
+      in
+      record {
+        begun = s.place;
+        whole = all_whole;
+        some = less_unless s.place at c.forward past;
+        within = c.within;
+        begins = c.begins;
+        not_whole = c.not_whole;
+        no_further = c.no_further;
+      }
+
+  pub ends_behind : {end : TextEnd} → BeginsTree s → Ends (part rule) s end → EndsFrom tokens from end
+  ends_behind {end} begins e = stops_behind begins end e.stops

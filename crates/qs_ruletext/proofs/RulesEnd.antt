@@ -3,11 +3,11 @@ use Rattle.std.proofs.Common.{◌≡◌, ℕ, refl, sym, List, drop, arith}
 use Rattle.qs_lex.specs.declared.token.Token.{Token}
 use Rattle.qs_lex.specs.Grammar.{part, repeated, IsWhole}
 use Rattle.qs_lex.proofs.OneEnd.{IsStuck, not_stuck}
-use Rattle.qs_ruletext.specs.declared.raw.TextEnd.{TextEnd}
-use Rattle.qs_ruletext.specs.declared.raw.TextEnd.TheVariants.{Syntax, Memory}
+use Rattle.qs_reader.specs.declared.text_end.TextEnd.{TextEnd}
+use Rattle.qs_reader.specs.declared.text_end.TextEnd.TheVariants.{Syntax, Memory}
 use Rattle.qs_ruletext.specs.Grammar.{rule, line}
 use Rattle.qs_ruletext.specs.Rules.{between, CannotGoOn, NoRuleAt, EndsFrom}
-use Rattle.qs_ruletext.specs.Cursors.{table}
+use Rattle.qs_ruletext.specs.Readers.{table}
 use Rattle.qs_ruletext.proofs.Tables.{more, all_ok}
 use Rattle.qs_ruletext.proofs.Between.{next_at, between_drop, some_between}
 use Rattle.qs_ruletext.proofs.OneRules.{no_rule_from}

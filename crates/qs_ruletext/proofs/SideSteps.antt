@@ -1,245 +1,165 @@
 -- The steps of the readers of trees, lists and sides.
-use Rattle.std.proofs.Common.{◌≡◌, ℕ, ◌+◌, false, ◌||◌, refl, sym, ◌∙◌, ap, subst, List, [], ◌∷◌, length, arith}
+use Rattle.std.proofs.Common.{◌≡◌, ℕ, ◌+◌, Bool, true, false, refl, sym, ◌∙◌, ap, subst, List, [], ◌∷◌, ◌++◌, arith}
+use Rattle.std.specs.Prelude.{not}
+use Rattle.std.proofs.lemmas.Bool.{false≢true}
+use Rattle.std.proofs.lemmas.Bool.Decides.{nat_tests}
 use Rattle.qs_lex.specs.declared.token.Token.{Token}
 use Rattle.qs_lex.specs.declared.token.Kind.{Kind}
 use Rattle.qs_lex.specs.declared.token.Kind.TheVariants.{Bare, Quoted, Variable, Node, Word as a_word, Opening, Closing, Comma, Plus, Slash, Equals, Stop}
-use Rattle.qs_lex.specs.Spelling.{IsLabelText}
-use Rattle.qs_lex.specs.Tokens.{bytes_of, HasLabelText}
-use Rattle.qs_lex.specs.Grammar.{a_label, a_label_variable, a_tree_variable, a_forest_variable, opening, closing, comma, sort_of, IsOf, Form, one, part, ◌·◌, ◌∣◌, optional}
-use Rattle.qs_lex.specs.Expecting.{starts, same_sort, NextIsNo, Leads}
-use Rattle.qs_lex.proofs.Going.{leads_same, leads_on, leads_part, leads_sequence, leads_this, leads_other, leads_without, leads_with}
+use Rattle.qs_lex.specs.Tokens.{IsTokenOf, bytes_of}
+use Rattle.qs_lex.specs.Spelling.{Spells}
+use Rattle.qs_lex.specs.Grammar.{Sort, a_label as the_label, a_label_variable, a_tree_variable, a_forest_variable, opening, closing, variable_sort, sort_of, part}
+use Rattle.qs_lex.specs.Expecting.{same_sort}
+use Rattle.qs_lex.specs.working.Expecting.{Apart}
+use Rattle.qs_lex.proofs.Predictive.{next_neither}
+use Rattle.qs_lex.proofs.Predicting.{apart_is}
+use Rattle.qs_lex.proofs.Readings.{token_stands}
 use Rattle.qs_pattern.specs.declared.variable.Var.{Var}
+use Rattle.qs_pattern.specs.declared.variable.VarClass.{VarClass}
+use Rattle.qs_pattern.specs.declared.variable.VarClass.TheVariants as class
 use Rattle.qs_pattern.specs.declared.pattern.Head.{Head}
 use Rattle.qs_pattern.specs.declared.pattern.Head.TheVariants as head
-use Rattle.qs_pattern.specs.Patterns.{Patterns, no_pattern, node_first, tree_var_first, forest_var_first}
-use Rattle.qs_ruletext.specs.declared.cursor.Halt.{Halt}
-use Rattle.qs_ruletext.specs.declared.cursor.Halt.TheVariants.{Syntax, Memory}
+use Rattle.qs_pattern.specs.declared.pattern.Pattern.{Pattern}
+use Rattle.qs_pattern.specs.Classes.{IsClassOf}
+use Rattle.qs_pattern.specs.Patterns.{Patterns, no_pattern, node_first, tree_var_first, forest_var_first, patterns}
+use Rattle.qs_pattern.specs.working.Patterns.{one_pattern}
+use Rattle.qs_tree.specs.declared.cell.Label.{Label}
+use Rattle.qs_reader.specs.declared.text_end.TextEnd.{TextEnd}
+use Rattle.qs_reader.specs.Readers.{Reading, rest_of, IsNext, IsPassed, Passes, Stays, NamesLabel, EndsHere, Reads, AToken, a_token, ALabel, a_label, Nothing, nothing, Then, then}
+use Rattle.qs_reader.proofs.Tokens.{passed, other_next}
+pub use Rattle.qs_reader.proofs.Tokens.{label_sort}
+use Rattle.qs_reader.proofs.Steps.{passed_read, token_read, label_read, left_out_read, absent_read, then_read, read_so, this_read, other_read, member_read, part_read, stayed_read, stayed_here, stayed_ends, ends_here, token_ends, part_ends, first_ends, then_ends, this_ends, other_ends, member_ends, before_ends}
 use Rattle.qs_ruletext.specs.Reading.{IsHeadOf, ReadsTree, reads_node, reads_tree_variable, ReadsSubtrees, no_parentheses, nothing_inside, list_inside, ReadsList, ReadsItem, reads_tree, reads_forest_variable}
-use Rattle.qs_ruletext.specs.Grammar.{Part, tree, list, item, line}
-use Rattle.qs_ruletext.specs.Rules.{KeepsNames}
-use Rattle.qs_ruletext.specs.Cursors.{table, begins_item, begins_tree, Readable, IsNext, IsNextVariable, Passes, Ends, IsRead, IsHeadRead, begins_head, EndsAtHead}
-use Rattle.qs_ruletext.proofs.Tables.{ok, next_is_no, not_at_end, token, readable_rest, next_length, ends_on, ends_here}
-use Rattle.qs_ruletext.proofs.Naming.{no_names, names_on, one_name, sign_names}
+use Rattle.qs_ruletext.specs.Grammar.{tree, list, item, line}
+use Rattle.qs_ruletext.specs.Readers.{table, begins_tree, begins_item, IsRead, Ends, IsGood, is_variable, sort_of_class, PassesVariable, a_head, in_parentheses, ReadsHead, reads_head}
 
-pub label_sort : (text : List ℕ) (t : Token) (spelling : List ℕ) → HasLabelText text t spelling → IsOf a_label t
-label_sort text t spelling h = by_kind t.kind (bytes_of text t) h
+-- variables
+pub spelled_good : (kind : Kind) (bytes : List ℕ) → Spells kind bytes → IsGood kind
+spelled_good Bare bytes s = tt
+spelled_good Quoted bytes s = tt
+spelled_good (Variable letter number) bytes s = (s.0, s.1)
+spelled_good (Node number) bytes s = tt
+spelled_good (a_word w) bytes s = tt
+spelled_good Opening bytes s = tt
+spelled_good Closing bytes s = tt
+spelled_good Comma bytes s = tt
+spelled_good Plus bytes s = tt
+spelled_good Slash bytes s = tt
+spelled_good Equals bytes s = tt
+spelled_good Stop bytes s = tt
+
+pub good_next : (r : Reading) (t : Token) → IsNext t r → IsGood t.kind
+good_next r t n = spelled_good t.kind (bytes_of r.text t) (token_stands n.of_text).spelled
+
+-- the sort of a variable, by its class
+class_sort : (v : Var) (c : VarClass) → IsClassOf v c → variable_sort v.letter ≡ sort_of_class c
+class_sort v class.Label is = grind (arith, nat_tests, is.0, is.1)
+class_sort v class.Tree is = grind (arith, nat_tests, is.0, is.1)
+class_sort v class.Forest is = grind (arith, nat_tests, is.0, is.1)
+
+pub variable_passed : (c : VarClass) (v : Var) (r s : Reading) (t : Token) → IsNext t r → t.kind ≡ Variable v.letter v.number → IsClassOf v c → s ≡ record r { place = r.place + 1 }
+    → PassesVariable (sort_of_class c) v r s
+variable_passed c v r s t n e is on = record { token = t; passed = passed r s t n on; is = record { of_sort = ap sort_of e ∙ class_sort v c is; variable = e } }
+
+-- a variable of another class, and a token that is no variable
+other_class : (c d : VarClass) → (c ≡ d → ⊥) → same_sort (sort_of_class c) (sort_of_class d) ≡ false
+other_class class.Label class.Label n = absurd (n refl)
+other_class class.Label class.Tree n = refl
+other_class class.Label class.Forest n = refl
+other_class class.Tree class.Label n = refl
+other_class class.Tree class.Tree n = absurd (n refl)
+other_class class.Tree class.Forest n = refl
+other_class class.Forest class.Label n = refl
+other_class class.Forest class.Tree n = refl
+other_class class.Forest class.Forest n = absurd (n refl)
+
+pub other_variable : (c d : VarClass) (v : Var) (r : Reading) (t : Token) → IsNext t r → t.kind ≡ Variable v.letter v.number → IsClassOf v d → (c ≡ d → ⊥) → Stays (sort_of_class c) r r
+other_variable c d v r t n e is differs =
+    other_next (sort_of_class c) r t n (ap (λ k. same_sort (sort_of_class c) k) (ap sort_of e ∙ class_sort v d is) ∙ other_class c d differs)
+
+class_is_variable : (c : VarClass) → Apart (same_sort (sort_of_class c)) (λ k. not (is_variable k))
+class_is_variable class.Label = apart_is (same_sort a_label_variable) (λ k. not (is_variable k)) refl
+class_is_variable class.Tree = apart_is (same_sort a_tree_variable) (λ k. not (is_variable k)) refl
+class_is_variable class.Forest = apart_is (same_sort a_forest_variable) (λ k. not (is_variable k)) refl
+
+pub no_variable : (c : VarClass) (r : Reading) (t : Token) → IsNext t r → is_variable (sort_of t.kind) ≡ false → Stays (sort_of_class c) r r
+no_variable c r t n none = other_next (sort_of_class c) r t n (by_test (same_sort (sort_of_class c) (sort_of t.kind)) refl)
   where
-    by_kind : (kind : Kind) (bytes : List ℕ) → IsLabelText kind bytes spelling → sort_of kind ≡ a_label
-    by_kind Bare bytes g = refl
-    by_kind Quoted bytes g = refl
-    by_kind (Variable letter number) bytes g = absurd g
-    by_kind (Node number) bytes g = absurd g
-    by_kind (a_word w) bytes g = absurd g
-    by_kind Opening bytes g = absurd g
-    by_kind Closing bytes g = absurd g
-    by_kind Comma bytes g = absurd g
-    by_kind Plus bytes g = absurd g
-    by_kind Slash bytes g = absurd g
-    by_kind Equals bytes g = absurd g
-    by_kind Stop bytes g = absurd g
+    by_test : (b : Bool) → same_sort (sort_of_class c) (sort_of t.kind) ≡ b → b ≡ false
+    by_test true e = let is : not (is_variable (sort_of t.kind)) ≡ false = class_is_variable c (sort_of t.kind) e in absurd (false≢true (sym is ∙ ap not none))
+    by_test false e = refl
 
-abbrev pub Inside : Form Part
-Inside = optional (part list) · one closing
+-- heads
+pub read_head_variable : {v : Var} {r s : Reading} (names : List (List ℕ)) → PassesVariable a_label_variable v r s → IsRead a_head (ReadsHead (head.Var v)) r s names names
+read_head_variable names p = other_read (passed_read names refl p.is.of_sort (λ later. reads_head p.is) p.passed)
 
-abbrev pub Subtrees : Form Part
-Subtrees = optional (one opening · Inside)
+head_of_label : {l : Label} (names : List (List ℕ)) (text : List ℕ) (ts rest : List Token) → ALabel l names text ts rest → ReadsHead (head.Label l) names text ts rest
+head_of_label names text ts rest (a_label is) = reads_head is
 
--- no parenthesis stands next
-pub no_subtrees : (behind : List (Form Part)) (ts : List Token) → NextIsNo (same_sort opening) ts → Leads line (Subtrees ∷ behind) ts behind ts
-no_subtrees behind ts n = leads_without (one opening · Inside) behind ts ok refl n
+pub read_head_label : {l : Label} {r s u : Reading} {old new : List (List ℕ)} → Stays a_label_variable r s → NamesLabel l s u old new → IsRead a_head (ReadsHead (head.Label l)) r u old new
+read_head_label st n = stayed_read st (this_read (read_so head_of_label (label_read n)))
 
--- one does
-pub opened : (behind : List (Form Part)) (ts inside : List Token) → starts table behind opening ≡ false → IsNext opening ts inside
-    → Leads line (Subtrees ∷ behind) ts (optional (part list) ∷ one closing ∷ behind) inside
-opened behind ts inside shut n =
-    leads_on (leads_with (one opening · Inside) behind ts ok (not_at_end opening ts inside behind n) (next_is_no (starts table behind) opening ts inside shut n))
-    (leads_on (leads_sequence line (one opening) Inside behind ts)
-    (leads_on (token opening (Inside ∷ behind) ts inside n)
-    (leads_sequence line (optional (part list)) (one closing) behind inside)))
+pub ends_at_head : {r s : Reading} {end : TextEnd} → Stays a_label_variable r s → EndsHere the_label s end → Ends a_head r end
+ends_at_head {r} st e = ends_here refl (λ n. next_neither (same_sort the_label) (same_sort a_label_variable) (rest_of r) n st.none) (stayed_here st e)
 
-pub closed_at_once : (behind : List (Form Part)) (ts inside rest : List Token) → starts table behind opening ≡ false → IsNext opening ts inside → IsNext closing inside rest
-    → Leads line (Subtrees ∷ behind) ts behind rest
-closed_at_once behind ts inside rest shut n m =
-    leads_on (opened behind ts inside shut n)
-    (leads_on (leads_without (part list) (one closing ∷ behind) inside ok refl (next_is_no begins_item closing inside rest refl m))
-    (token closing behind inside rest m))
+-- what may stand in parentheses behind a head
+nothing_there : (kids : Patterns) → kids ≡ no_pattern → (names : List (List ℕ)) (text : List ℕ) (ts rest : List Token) → Nothing names text ts rest → ReadsSubtrees names text ts kids rest
+nothing_there kids e names text ts rest nothing = subst (λ p. ReadsSubtrees names text ts p rest) (sym e) no_parentheses
 
-pub to_list : (behind : List (Form Part)) (ts inside : List Token) → starts table behind opening ≡ false → IsNext opening ts inside → NextIsNo (same_sort closing) inside
-    → Leads line (Subtrees ∷ behind) ts (part list ∷ one closing ∷ behind) inside
-to_list behind ts inside shut n m =
-    leads_on (opened behind ts inside shut n) (leads_with (part list) (one closing ∷ behind) inside ok (λ e. refl) m)
+pub read_no_subtrees : {r s : Reading} (names : List (List ℕ)) (kids : Patterns) → kids ≡ no_pattern → Stays opening r s → IsRead in_parentheses (λ names text ts rest. ReadsSubtrees names text ts kids rest) r s names names
+read_no_subtrees names kids e st = read_so (nothing_there kids e) (left_out_read names st.none st)
 
-pub closed : (behind : List (Form Part)) (ts inside end rest : List Token) → starts table behind opening ≡ false → IsNext opening ts inside → NextIsNo (same_sort closing) inside
-    → Passes (part list) (comma ∷ opening ∷ []) inside end → IsNext closing end rest
-    → Leads line (Subtrees ∷ behind) ts behind rest
-closed behind ts inside end rest shut n m p k =
-    leads_on (to_list behind ts inside shut n m) (leads_on (p (one closing ∷ behind) (refl, (refl, tt))) (token closing behind end rest k))
+nothing_in_them : (kids : Patterns) → kids ≡ no_pattern → (names : List (List ℕ)) (text : List ℕ) (ts rest : List Token) → Then (AToken opening) (Then Nothing (AToken closing)) names text ts rest → ReadsSubtrees names text ts kids rest
+nothing_in_them kids e names text ts rest (then (a_token o) (then nothing (a_token c))) = subst (λ p. ReadsSubtrees names text ts p rest) (sym e) (nothing_inside o c)
 
-pub read_no_subtrees : (text : List ℕ) (names : List (List ℕ)) (ts : List Token) (kids : Patterns) → kids ≡ no_pattern → Readable text ts → NextIsNo (same_sort opening) ts
-    → IsRead Subtrees (opening ∷ []) (λ later. ReadsSubtrees later text ts kids ts) text ts ts names names
-read_no_subtrees text names ts kids e r n =
-    record {
-      reads = λ later k. subst (λ p. ReadsSubtrees later text ts p ts) (sym e) no_parentheses;
-      passes = λ behind f. no_subtrees behind ts n;
-      readable = r;
-      names = no_names text ts names;
-      room = omega arith;
-      no_longer = omega arith;
-    }
+pub read_nothing_inside : {r s u : Reading} (names : List (List ℕ)) (kids : Patterns) → kids ≡ no_pattern → Passes opening r s → Passes closing s u
+    → IsRead in_parentheses (λ names text ts rest. ReadsSubtrees names text ts kids rest) r u names names
+read_nothing_inside names kids e p q = read_so (nothing_in_them kids e) (member_read (then_read (token_read names refl p) (then_read (absent_read names refl q) (token_read names refl q))))
 
-pub read_nothing_inside : (text : List ℕ) (names : List (List ℕ)) (ts inside rest : List Token) (kids : Patterns) → kids ≡ no_pattern → Readable text ts
-    → IsNext opening ts inside → IsNext closing inside rest
-    → IsRead Subtrees (opening ∷ []) (λ later. ReadsSubtrees later text ts kids rest) text ts rest names names
-read_nothing_inside text names ts inside rest kids e r n m =
-    let are : ts ≡ n.0 ∷ m.0 ∷ rest = n.1 ∙ ap (λ us. n.0 ∷ us) m.1 in
-    let outer = next_length opening ts inside n in
-    let inner = next_length closing inside rest m in
-    record {
-      reads = λ later k. subst (λ p. ReadsSubtrees later text ts p rest) (sym e) (subst (λ us. ReadsSubtrees later text us no_pattern rest) (sym are) (nothing_inside n.2 m.2));
-      passes = λ behind f. closed_at_once behind ts inside rest f.0 n m;
-      readable = readable_rest text inside rest m.0 m.1 (readable_rest text ts inside n.0 n.1 r);
-      names = names_on text ts inside rest names names names (sign_names opening text ts inside names refl n) (sign_names closing text inside rest names refl m);
-      room = omega (arith, outer, inner);
-      no_longer = omega (arith, outer, inner);
-    }
+list_in_them : {kids : Patterns} (names : List (List ℕ)) (text : List ℕ) (ts rest : List Token) → Then (AToken opening) (Then (λ names text ts rest. ReadsList names text ts kids rest) (AToken closing)) names text ts rest
+    → ReadsSubtrees names text ts kids rest
+list_in_them names text ts rest (then (a_token o) (then l (a_token c))) = list_inside o l c
 
-pub read_list_inside : (text : List ℕ) (old new : List (List ℕ)) (ts inside end rest : List Token) (kids : Patterns)
-    → IsNext opening ts inside → NextIsNo (same_sort closing) inside
-    → IsRead (part list) (comma ∷ opening ∷ []) (λ later. ReadsList later text inside kids end) text inside end old new
-    → IsNext closing end rest
-    → IsRead Subtrees (opening ∷ []) (λ later. ReadsSubtrees later text ts kids rest) text ts rest old new
-read_list_inside text old new ts inside end rest kids n shut found m =
-    let outer = next_length opening ts inside n in
-    let inner = next_length closing end rest m in
-    record {
-      reads = λ later k.
-          let inner_list : ReadsList later text inside kids (m.0 ∷ rest) = subst (λ us. ReadsList later text inside kids us) m.1 (found.reads later k) in
-          subst (λ us. ReadsSubtrees later text us kids rest) (sym n.1) (list_inside n.2 inner_list m.2);
-      passes = λ behind f. closed behind ts inside end rest f.0 n shut found.passes m;
-      readable = readable_rest text end rest m.0 m.1 found.readable;
-      names = names_on text ts inside rest old old new (sign_names opening text ts inside old refl n) (names_on text inside end rest old new new found.names (sign_names closing text end rest new refl m));
-      room = omega (arith, outer, inner, found.room);
-      no_longer = omega (arith, outer, inner, found.no_longer);
-    }
+pub read_list_inside : {kids : Patterns} {r s u v w : Reading} {old new : List (List ℕ)} → Passes opening r s → Stays closing s u
+    → IsRead (part list) (λ names text ts rest. ReadsList names text ts kids rest) u v old new → Passes closing v w
+    → IsRead in_parentheses (λ names text ts rest. ReadsSubtrees names text ts kids rest) r w old new
+read_list_inside {old} {new} p st a q = read_so list_in_them (member_read (then_read (token_read old refl p) (then_read (stayed_read st (member_read a)) (token_read new refl q))))
 
-pub ends_in_list : (ts inside : List Token) (halt : Halt) → IsNext opening ts inside → NextIsNo (same_sort closing) inside
-    → Ends (part list) (comma ∷ opening ∷ []) inside halt → Ends Subtrees (opening ∷ []) ts halt
-ends_in_list ts inside halt n shut e =
-    ends_on Subtrees (part list) (opening ∷ []) (comma ∷ opening ∷ []) ts inside halt
-    (λ behind f. (one closing ∷ behind, (refl, (refl, tt)), to_list behind ts inside f.0 n shut)) e
+pub ends_in_list : {r s u : Reading} {end : TextEnd} → Passes opening r s → Stays closing s u → Ends (part list) u end → Ends in_parentheses r end
+ends_in_list p st e = member_ends p (before_ends refl st.none (stayed_ends st e))
 
-pub ends_unclosed : (text : List ℕ) (old new : List (List ℕ)) (Reads : List (List ℕ) → Type 0) (ts inside end : List Token) → IsNext opening ts inside → NextIsNo (same_sort closing) inside
-    → IsRead (part list) (comma ∷ opening ∷ []) Reads text inside end old new → NextIsNo (same_sort closing) end
-    → Ends Subtrees (opening ∷ []) ts (Syntax (length end))
-ends_unclosed text old new Reads ts inside end n shut found m =
-    ends_here Subtrees (opening ∷ []) ts end
-    (λ behind f. (one closing ∷ behind, leads_on (to_list behind ts inside f.0 n shut) (found.passes (one closing ∷ behind) (refl, (refl, tt))), m, refl))
+pub ends_unclosed : {R : Reads} {r s u v : Reading} {old new : List (List ℕ)} {end : TextEnd} → Passes opening r s → Stays closing s u
+    → IsRead (part list) R u v old new → EndsHere closing v end → Ends in_parentheses r end
+ends_unclosed p st a e = member_ends p (then_ends (stayed_read st (member_read a)) (token_ends e))
 
--- a tree: its head is a label or a label variable, and subtrees may follow
-after_label : (behind : List (Form Part)) (ts rest : List Token) → IsNext a_label ts rest → Leads line (part tree ∷ behind) ts (Subtrees ∷ behind) rest
-after_label behind ts rest n =
-    leads_on (leads_part line tree behind ts)
-    (leads_on (leads_this ((one a_label ∣ one a_label_variable) · Subtrees) (one a_tree_variable) behind ts ok refl (next_is_no (same_sort a_tree_variable) a_label ts rest refl n))
-    (leads_on (leads_sequence line (one a_label ∣ one a_label_variable) Subtrees behind ts)
-    (leads_on (leads_this (one a_label) (one a_label_variable) (Subtrees ∷ behind) ts ok refl (next_is_no (same_sort a_label_variable) a_label ts rest refl n))
-    (token a_label (Subtrees ∷ behind) ts rest n))))
+-- a tree
+pub read_tree_variable : {v : Var} {r s : Reading} (names : List (List ℕ)) → PassesVariable a_tree_variable v r s
+    → IsRead (part tree) (λ names text ts rest. ReadsTree names text ts (tree_var_first v no_pattern) rest) r s names names
+read_tree_variable names p = part_read (other_read (passed_read names refl p.is.of_sort (λ later. reads_tree_variable p.is) p.passed))
 
-after_label_variable : (behind : List (Form Part)) (ts rest : List Token) → IsNext a_label_variable ts rest → Leads line (part tree ∷ behind) ts (Subtrees ∷ behind) rest
-after_label_variable behind ts rest n =
-    leads_on (leads_part line tree behind ts)
-    (leads_on (leads_this ((one a_label ∣ one a_label_variable) · Subtrees) (one a_tree_variable) behind ts ok refl (next_is_no (same_sort a_tree_variable) a_label_variable ts rest refl n))
-    (leads_on (leads_sequence line (one a_label ∣ one a_label_variable) Subtrees behind ts)
-    (leads_on (leads_other (one a_label) (one a_label_variable) (Subtrees ∷ behind) ts ok refl (next_is_no (same_sort a_label) a_label_variable ts rest refl n))
-    (token a_label_variable (Subtrees ∷ behind) ts rest n))))
+node_of : {h : Head} {kids : Patterns} (p : Patterns) → p ≡ node_first h kids no_pattern → (names : List (List ℕ)) (text : List ℕ) (ts rest : List Token)
+    → Then (ReadsHead h) (λ names text ts rest. ReadsSubtrees names text ts kids rest) names text ts rest → ReadsTree names text ts p rest
+node_of p e names text ts rest (then (reads_head is) below) = subst (λ q. ReadsTree names text ts q rest) (sym e) (reads_node is below)
 
-pub after_head : (names : List (List ℕ)) (text : List ℕ) (h : Head) (behind : List (Form Part)) (t : Token) (ts rest : List Token) → ts ≡ t ∷ rest → IsHeadOf names text t h
-    → Leads line (part tree ∷ behind) ts (Subtrees ∷ behind) rest
-after_head names text (head.Label l) behind t ts rest e is = after_label behind ts rest (t, e, label_sort text t is.spelling is.of_token)
-after_head names text (head.Var v) behind t ts rest e is = after_label_variable behind ts rest (t, e, is.of_sort)
+pub read_node : {h : Head} {kids : Patterns} {r s u v : Reading} {old middle new : List (List ℕ)} (p : Patterns) → p ≡ node_first h kids no_pattern → Stays a_tree_variable r s
+    → IsRead a_head (ReadsHead h) s u old middle → IsRead in_parentheses (λ names text ts rest. ReadsSubtrees names text ts kids rest) u v middle new
+    → IsRead (part tree) (λ names text ts rest. ReadsTree names text ts p rest) r v old new
+read_node p e st a b = stayed_read st (part_read (this_read (read_so (node_of p e) (then_read a b))))
 
-pub read_node : (text : List ℕ) (old middle new : List (List ℕ)) (h : Head) (ts rest end : List Token) (p kids : Patterns)
-    → p ≡ node_first h kids no_pattern → IsHeadRead text ts h rest old middle → KeepsNames middle new
-    → IsRead Subtrees (opening ∷ []) (λ later. ReadsSubtrees later text rest kids end) text rest end middle new
-    → IsRead (part tree) (opening ∷ []) (λ later. ReadsTree later text ts p end) text ts end old new
-read_node text old middle new h ts rest end p kids is top keeps found =
-    let shorter : length ts ≡ length rest + 1 = ap length top.are ∙ omega arith in
-    record {
-      reads = λ later k.
-          subst (λ q. ReadsTree later text ts q end) (sym is)
-          (subst (λ us. ReadsTree later text us (node_first h kids no_pattern) end) (sym top.are) (reads_node (top.is_head later (λ j x i. k j x (keeps j x i))) (found.reads later k)));
-      passes = λ behind f. leads_on (after_head middle text h behind top.next ts rest top.are (top.is_head middle (λ j x i. i))) (found.passes behind f);
-      readable = found.readable;
-      names = names_on text ts rest end old middle new (one_name text ts rest top.next old middle top.are top.adds) found.names;
-      room = omega (arith, shorter, top.few, found.room);
-      no_longer = omega (arith, shorter, found.no_longer);
-    }
+pub ends_in_head : {r s : Reading} {end : TextEnd} → Stays a_tree_variable r s → Ends a_head s end → Ends (part tree) r end
+ends_in_head st e = part_ends (this_ends st.none (first_ends (stayed_ends st e)))
 
-pub ends_in_subtrees : (text : List ℕ) (old middle : List (List ℕ)) (h : Head) (ts rest : List Token) (halt : Halt) → IsHeadRead text ts h rest old middle
-    → Ends Subtrees (opening ∷ []) rest halt → Ends (part tree) (opening ∷ []) ts halt
-ends_in_subtrees text old middle h ts rest halt top found =
-    ends_on (part tree) Subtrees (opening ∷ []) (opening ∷ []) ts rest halt
-    (λ behind f. (behind, f, after_head middle text h behind top.next ts rest top.are (top.is_head middle (λ j x i. i)))) found
-
-no_tree : (ts : List Token) → NextIsNo (same_sort a_tree_variable) ts → NextIsNo begins_head ts → NextIsNo begins_tree ts
-no_tree [] n m = tt
-no_tree (t ∷ ts) n m = rw (n, m) refl
-
-pub ends_at_head : (ts : List Token) (halt : Halt) → NextIsNo (same_sort a_tree_variable) ts → EndsAtHead ts halt → Ends (part tree) (opening ∷ []) ts halt
-ends_at_head ts (Syntax left) n e =
-    rw e.0 (ends_here (part tree) (opening ∷ []) ts ts (λ behind f. (part tree ∷ behind, leads_same line (part tree ∷ behind) ts, no_tree ts n e.1, refl)))
-ends_at_head ts Memory n e = tt
-
-pub read_tree_variable : (text : List ℕ) (names : List (List ℕ)) (ts rest : List Token) (v : Var) → Readable text ts → IsNextVariable a_tree_variable ts v rest
-    → IsRead (part tree) (opening ∷ []) (λ later. ReadsTree later text ts (tree_var_first v no_pattern) rest) text ts rest names names
-read_tree_variable text names ts rest v r n =
-    let next : IsNext a_tree_variable ts rest = (n.0, n.1, n.2.of_sort) in
-    let shorter = next_length a_tree_variable ts rest next in
-    record {
-      reads = λ later k. subst (λ us. ReadsTree later text us (tree_var_first v no_pattern) rest) (sym n.1) (reads_tree_variable n.2);
-      passes = λ behind f.
-          leads_on (leads_part line tree behind ts)
-          (leads_on (leads_other ((one a_label ∣ one a_label_variable) · Subtrees) (one a_tree_variable) behind ts ok refl (next_is_no (λ k. same_sort a_label k || same_sort a_label_variable k) a_tree_variable ts rest refl next))
-          (token a_tree_variable behind ts rest next));
-      readable = readable_rest text ts rest n.0 n.1 r;
-      names = sign_names a_tree_variable text ts rest names refl next;
-      room = omega (arith, shorter);
-      no_longer = omega (arith, shorter);
-    }
+pub ends_in_subtrees : {R : Reads} {r s u : Reading} {old new : List (List ℕ)} {end : TextEnd} → Stays a_tree_variable r s → IsRead a_head R s u old new → Ends in_parentheses u end → Ends (part tree) r end
+ends_in_subtrees st a e = part_ends (this_ends st.none (then_ends (stayed_read st a) e))
 
 -- an item
-pub read_forest_variable : (text : List ℕ) (names : List (List ℕ)) (ts rest : List Token) (v : Var) → Readable text ts → IsNextVariable a_forest_variable ts v rest
-    → IsRead (part item) (opening ∷ []) (λ later. ReadsItem later text ts (forest_var_first v no_pattern) rest) text ts rest names names
-read_forest_variable text names ts rest v r n =
-    let next : IsNext a_forest_variable ts rest = (n.0, n.1, n.2.of_sort) in
-    let shorter = next_length a_forest_variable ts rest next in
-    record {
-      reads = λ later k. subst (λ us. ReadsItem later text us (forest_var_first v no_pattern) rest) (sym n.1) (reads_forest_variable n.2);
-      passes = λ behind f.
-          leads_on (leads_part line item behind ts)
-          (leads_on (leads_other (part tree) (one a_forest_variable) behind ts ok refl (next_is_no begins_tree a_forest_variable ts rest refl next))
-          (token a_forest_variable behind ts rest next));
-      readable = readable_rest text ts rest n.0 n.1 r;
-      names = sign_names a_forest_variable text ts rest names refl next;
-      room = omega (arith, shorter);
-      no_longer = omega (arith, shorter);
-    }
+pub read_forest_variable : {v : Var} {r s : Reading} (names : List (List ℕ)) → PassesVariable a_forest_variable v r s
+    → IsRead (part item) (λ names text ts rest. ReadsItem names text ts (forest_var_first v no_pattern) rest) r s names names
+read_forest_variable names p = part_read (other_read (passed_read names refl p.is.of_sort (λ later. reads_forest_variable p.is) p.passed))
 
-to_tree : (behind : List (Form Part)) (ts : List Token) → NextIsNo (same_sort a_forest_variable) ts → Leads line (part item ∷ behind) ts (part tree ∷ behind) ts
-to_tree behind ts n = leads_on (leads_part line item behind ts) (leads_this (part tree) (one a_forest_variable) behind ts ok refl n)
+pub read_item : {p : Patterns} {r s u : Reading} {old new : List (List ℕ)} → Stays a_forest_variable r s → IsRead (part tree) (λ names text ts rest. ReadsTree names text ts p rest) s u old new
+    → IsRead (part item) (λ names text ts rest. ReadsItem names text ts p rest) r u old new
+read_item st a = stayed_read st (part_read (this_read (read_so (λ names text ts rest x. reads_tree x) a)))
 
-pub read_item : (text : List ℕ) (old new : List (List ℕ)) (ts rest : List Token) (p : Patterns) → NextIsNo (same_sort a_forest_variable) ts
-    → IsRead (part tree) (opening ∷ []) (λ later. ReadsTree later text ts p rest) text ts rest old new
-    → IsRead (part item) (opening ∷ []) (λ later. ReadsItem later text ts p rest) text ts rest old new
-read_item text old new ts rest p n found =
-    record {
-      reads = λ later k. reads_tree (found.reads later k);
-      passes = λ behind f. leads_on (to_tree behind ts n) (found.passes behind f);
-      readable = found.readable;
-      names = found.names;
-      room = found.room;
-      no_longer = found.no_longer;
-    }
-
-pub ends_in_tree : (ts : List Token) (halt : Halt) → NextIsNo (same_sort a_forest_variable) ts → Ends (part tree) (opening ∷ []) ts halt → Ends (part item) (opening ∷ []) ts halt
-ends_in_tree ts halt n found =
-    ends_on (part item) (part tree) (opening ∷ []) (opening ∷ []) ts ts halt (λ behind f. (behind, f, to_tree behind ts n)) found
+pub ends_in_tree : {r s : Reading} {end : TextEnd} → Stays a_forest_variable r s → Ends (part tree) s end → Ends (part item) r end
+ends_in_tree st e = part_ends (this_ends st.none (stayed_ends st e))

@@ -13,7 +13,8 @@ use Rattle.qs_pattern.specs.declared.variable.Var.{Var}
 use Rattle.qs_pattern.specs.declared.pattern.Head.{Head}
 use Rattle.qs_pattern.specs.declared.pattern.Head.TheVariants as head
 use Rattle.qs_pattern.specs.Patterns.{Patterns, no_pattern, node_first, tree_var_first, forest_var_first, IsHeadInClass, AreInClass}
-use Rattle.qs_pattern.specs.Conditions.{Comparing, within, outside, Joining, all, any, Condition, Conditions, compared, negated, combined, no_condition, condition_first, IsConditionInClass, EachListOfAll}
+use Rattle.qs_pattern.specs.Conditions.{Comparing, within, outside, Joining, all, any, Condition, Conditions, compared, negated, combined, no_condition, condition_first, IsConditionInClass}
+use Rattle.qs_pattern.specs.working.Conditions.{EachListOfAll}
 use Rattle.qs_pattern.specs.Rules.{UnmarkedRule, IsInClassIfGiven}
 use Rattle.qs_ruletext.specs.Rules.{IsWellRead, IsWellReadIfGiven}
 use Rattle.qs_ruletext.specs.Reading.{comparing_word}

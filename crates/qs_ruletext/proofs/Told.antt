@@ -13,7 +13,8 @@ use Rattle.qs_pattern.specs.declared.variable.Var.{Var}
 use Rattle.qs_pattern.specs.declared.pattern.Head.{Head}
 use Rattle.qs_pattern.specs.declared.pattern.Head.TheVariants as head
 use Rattle.qs_pattern.specs.Variables.{IsLabelVar, IsTreeVar, IsForestVar}
-use Rattle.qs_pattern.specs.Conditions.{Condition, Conditions, no_condition, condition_first, IsConditionInClass, EachListOfAll, HasEnoughMembers, HaveEnoughMembers}
+use Rattle.qs_pattern.specs.Conditions.{Condition, Conditions, no_condition, condition_first, IsConditionInClass, HasEnoughMembers, HaveEnoughMembers}
+use Rattle.qs_pattern.specs.working.Conditions.{EachListOfAll}
 use Rattle.qs_pattern.specs.Rules.{UnmarkedRule}
 use Rattle.qs_pattern.specs.Patterns.{Patterns, no_pattern, node_first, tree_var_first, forest_var_first, count, IsHeadInClass, AreInClass, NoForestAtTop}
 use Rattle.qs_ruletext.specs.Reading.{IsHeadOf, IsVariableOf, joined, ReadsTree, reads_node, reads_tree_variable, ReadsSubtrees, no_parentheses, nothing_inside, list_inside, ReadsList, reads_list, ReadsMoreItems, no_more_items, one_more_item, ReadsItem, reads_tree, reads_forest_variable, ReadsMoreTrees, no_more_trees, one_more_tree, ReadsSide, reads_side, any_of, all_of, ReadsCond, reads_cond, ReadsMoreConjs, no_more_conjs, one_more_conj, ReadsConj, reads_conj, ReadsMoreNegs, no_more_negs, one_more_neg, ReadsNeg, not_negated, reads_negated, ReadsPrim, reads_group, reads_compared}
@@ -22,7 +23,8 @@ use Rattle.qs_ruletext.specs.WrittenRules.{WrittenRule}
 use Rattle.std.specs.List.{All}
 use Rattle.std.proofs.lemmas.List.Elements.{All-nil, All-cons}
 use Rattle.qs_ruletext.proofs.FullLists.{full_cond}
-use Rattle.qs_pattern.specs.Named.{IsHeadNamed, ArePatternsNamed, IsConditionNamed, AreConditionsNamed}
+use Rattle.qs_pattern.specs.Named.{IsHeadNamed, ArePatternsNamed, IsConditionNamed}
+use Rattle.qs_pattern.specs.working.Named.{AreConditionsNamed}
 
 -- the class of a variable by the sort of its token
 label_case : (a b : Bool) → cond a a_label_variable (cond b a_tree_variable a_forest_variable) ≡ a_label_variable → a ≡ true

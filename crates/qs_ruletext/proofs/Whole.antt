@@ -12,8 +12,8 @@ use Rattle.qs_ruletext.specs.WrittenRules.{WrittenRule}
 use Rattle.qs_ruletext.specs.Grammar.{rule, side, tree, list, item, cond, conj, neg, prim, line}
 use Rattle.qs_ruletext.specs.Reading.{IsHeadOf, ReadsTree, reads_node, reads_tree_variable, ReadsSubtrees, no_parentheses, nothing_inside, list_inside, ReadsList, reads_list, ReadsMoreItems, no_more_items, one_more_item, ReadsItem, reads_tree, reads_forest_variable, ReadsMoreTrees, no_more_trees, one_more_tree, ReadsSide, reads_side, ReadsCond, reads_cond, ReadsMoreConjs, no_more_conjs, one_more_conj, ReadsConj, reads_conj, ReadsMoreNegs, no_more_negs, one_more_neg, ReadsNeg, not_negated, reads_negated, ReadsPrim, reads_group, reads_compared}
 use Rattle.qs_ruletext.specs.Rules.{ReadsCondIfGiven, no_cond, some_cond, ReadsRule, reads_rule, ReadsRules}
-use Rattle.qs_ruletext.proofs.SideSteps.{Subtrees, label_sort}
-use Rattle.qs_ruletext.proofs.RuleSteps.{IfGiven}
+use Rattle.qs_reader.proofs.Tokens.{label_sort}
+use Rattle.qs_ruletext.specs.Readers.{in_parentheses, condition_if_any}
 use Rattle.qs_ruletext.proofs.ComparingWords.{comparing_whole}
 
 head_whole : (names : List (List ℕ)) (text : List ℕ) (t : Token) (h : Head) (rest : List Token) → IsHeadOf names text t h → IsWhole line (one a_label ∣ one a_label_variable) (t ∷ rest) rest
@@ -25,7 +25,7 @@ mutual
   tree_whole {names} {text} (reads_node {t} {h} {ts} is below) = whole_part (whole_this (whole_sequence (head_whole names text t h ts is) (subtrees_whole below)))
   tree_whole (reads_tree_variable is) = whole_part (whole_other (whole_token is.of_sort))
 
-  subtrees_whole : {names : List (List ℕ)} {text : List ℕ} {ts rest : List Token} {p : Patterns} → ReadsSubtrees names text ts p rest → IsWhole line Subtrees ts rest
+  subtrees_whole : {names : List (List ℕ)} {text : List ℕ} {ts rest : List Token} {p : Patterns} → ReadsSubtrees names text ts p rest → IsWhole line in_parentheses ts rest
   subtrees_whole no_parentheses = left_out
   subtrees_whole (nothing_inside e f) = not_left_out (whole_sequence (whole_token e) (whole_sequence left_out (whole_token f)))
   subtrees_whole (list_inside e l f) = not_left_out (whole_sequence (whole_token e) (whole_sequence (not_left_out (list_whole l)) (whole_token f)))
@@ -71,7 +71,7 @@ mutual
   prim_whole (reads_group e c f) = whole_part (whole_this (whole_sequence (whole_token e) (whole_sequence (cond_whole c) (whole_token f))))
   prim_whole (reads_compared {word} a e b) = whole_part (whole_other (whole_sequence (list_whole a) (whole_sequence (comparing_whole word e) (list_whole b))))
 
-given_whole : {names : List (List ℕ)} {text : List ℕ} {ts rest : List Token} {c : Option Condition} → ReadsCondIfGiven names text ts c rest → IsWhole line IfGiven ts rest
+given_whole : {names : List (List ℕ)} {text : List ℕ} {ts rest : List Token} {c : Option Condition} → ReadsCondIfGiven names text ts c rest → IsWhole line condition_if_any ts rest
 given_whole no_cond = left_out
 given_whole (some_cond e c) = not_left_out (whole_sequence (whole_token e) (cond_whole c))
 

@@ -2,7 +2,7 @@
 use Rattle.std.specs.Prelude.{ℕ, List, refl}
 use Rattle.std.specs.Coded.{Coded, code_by, coded×, coded_list, coded_ℕ}
 use Rattle.qs_pattern.specs.Rules.{UnmarkedRule}
-use Rattle.qs_pattern.specs.Codes.{unmarked_code}
+use Rattle.qs_pattern.specs.working.Codes.{unmarked_code}
 use Rattle.qs_ruletext.specs.WrittenRules.{WrittenRule}
 
 abbrev pub written_rule_code : Coded WrittenRule

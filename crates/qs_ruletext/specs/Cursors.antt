@@ -7,7 +7,8 @@ use Rattle.qs_lex.specs.declared.token.Kind.TheVariants.{Bare, Quoted, Variable,
 use Rattle.qs_lex.specs.declared.token.Word.TheVariants.{Non}
 use Rattle.qs_lex.specs.Tokens.{IsTokenOf}
 use Rattle.qs_lex.specs.Grammar.{Sort, a_label, a_label_variable, a_tree_variable, a_forest_variable, the_word, opening, sort_of, IsOf, Form}
-use Rattle.qs_lex.specs.Expecting.{same_sort, NextIsNo, Refuse, Leads, Stops}
+use Rattle.qs_lex.specs.Expecting.{same_sort, NextIsNo}
+use Rattle.qs_lex.specs.working.Expecting.{Refuse, Leads, Stops}
 use Rattle.qs_pattern.specs.declared.variable.Var.{Var}
 use Rattle.qs_pattern.specs.Letters.{IsVariable}
 use Rattle.qs_ruletext.specs.declared.cursor.Start.{Start}
@@ -19,30 +20,7 @@ use Rattle.qs_pattern.specs.declared.pattern.Head.{Head}
 use Rattle.qs_ruletext.specs.Reading.{IsVariableOf, IsHeadOf}
 use Rattle.qs_ruletext.specs.Rules.{KeepsNames}
 use Rattle.qs_ruletext.specs.Names.{AddsNameOf, NamesGrowUpTo}
-
--- which sorts the parts may begin with
-abbrev pub begins_tree : Sort → Bool
-begins_tree k = (same_sort a_label k || same_sort a_label_variable k) || same_sort a_tree_variable k
-
-abbrev pub begins_item : Sort → Bool
-begins_item k = begins_tree k || same_sort a_forest_variable k
-
-abbrev pub begins_prim : Sort → Bool
-begins_prim k = same_sort opening k || begins_item k
-
-abbrev pub begins_neg : Sort → Bool
-begins_neg k = same_sort (the_word Non) k || begins_prim k
-
-abbrev pub table : Part → Sort → Bool
-table rule = begins_tree
-table side = begins_tree
-table tree = begins_tree
-table list = begins_item
-table item = begins_item
-table cond = begins_neg
-table conj = begins_neg
-table neg = begins_neg
-table prim = begins_prim
+pub use Rattle.qs_ruletext.specs.Readers.{begins_tree, begins_item, begins_prim, begins_neg, table, IsGood}
 
 -- a word or a sign, which one kind of token alone is
 abbrev pub IsSign : Kind → Type 0
@@ -51,11 +29,6 @@ IsSign Quoted = ⊥
 IsSign (Variable letter number) = ⊥
 IsSign (Node number) = ⊥
 IsSign _ = Unit {0}
-
--- a variable of such a letter and such a number is one
-abbrev pub IsGood : Kind → Type 0
-IsGood (Variable letter number) = IsVariable letter number
-IsGood _ = Unit {0}
 
 -- these are tokens of the text
 abbrev pub Readable : List ℕ → List Token → Type 0

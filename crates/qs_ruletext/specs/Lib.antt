@@ -11,4 +11,5 @@ pub mod Written
 -- No public contract cites these: what the private functions of the reader promise, and how the logic tells rules that were
 -- read apart.
 pub mod Cursors
+pub mod Readers
 pub mod Codes

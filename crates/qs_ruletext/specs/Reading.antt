@@ -1,24 +1,17 @@
 -- What is read from the tokens of trees and conditions: one case for each line of the grammar and each alternative in it.
 -- In `Reads.. tokens x rest` the tokens before the rest are read as x.
-use Rattle.std.specs.Prelude.{◌≡◌, ℕ, List, ◌∷◌, Some, slice_get}
+use Rattle.std.specs.Prelude.{◌≡◌, ℕ, List, ◌∷◌}
 use Rattle.qs_lex.specs.declared.token.Token.{Token}
 use Rattle.qs_lex.specs.declared.token.Kind.TheVariants.{Variable}
 use Rattle.qs_lex.specs.declared.token.Word.{Word}
 use Rattle.qs_lex.specs.declared.token.Word.TheVariants.{Dans, Hors, Et, Ou, Non}
-use Rattle.qs_lex.specs.Tokens.{HasLabelText}
 use Rattle.qs_lex.specs.Grammar.{Sort, a_label_variable, a_tree_variable, a_forest_variable, the_word, opening, closing, comma, plus, IsOf}
-use Rattle.qs_tree.specs.declared.cell.Label.{Label}
+pub use Rattle.qs_reader.specs.Names.{IsLabelOf}
 use Rattle.qs_pattern.specs.declared.variable.Var.{Var}
 use Rattle.qs_pattern.specs.declared.pattern.Head.{Head}
 use Rattle.qs_pattern.specs.declared.pattern.Head.TheVariants as head
 use Rattle.qs_pattern.specs.Patterns.{Patterns, no_pattern, node_first, tree_var_first, forest_var_first}
 use Rattle.qs_pattern.specs.Conditions.{Comparing, within, outside, all, any, Condition, Conditions, compared, negated, combined, no_condition, condition_first}
-
--- the token is a label, bare or quoted, and this label is the number of its text
-pub record IsLabelOf (names : List (List ℕ)) (text : List ℕ) (t : Token) (label : Label) : Type 0 where
-  pub spelling : List ℕ
-  pub of_token : HasLabelText text t spelling
-  pub named : slice_get names label.0 ≡ Some spelling
 
 -- the token is this variable, of this sort
 pub record IsVariableOf (sort : Sort) (t : Token) (v : Var) : Type 0 where

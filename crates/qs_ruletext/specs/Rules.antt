@@ -7,9 +7,11 @@ use Rattle.qs_lex.specs.Grammar.{slash, equals, stop, IsOf, part, repeated, IsWh
 use Rattle.qs_pattern.specs.Patterns.{Patterns, count, AreInClass, NoForestAtTop}
 use Rattle.qs_pattern.specs.Conditions.{Condition, IsConditionInClass, HasEnoughMembers}
 use Rattle.qs_pattern.specs.Rules.{UnmarkedRule}
+pub use Rattle.qs_reader.specs.Names.{KeepsNames}
+pub use Rattle.qs_reader.specs.Readers.{between}
 use Rattle.qs_ruletext.specs.WrittenRules.{WrittenRule}
-use Rattle.qs_ruletext.specs.declared.raw.TextEnd.{TextEnd}
-use Rattle.qs_ruletext.specs.declared.raw.TextEnd.TheVariants.{Syntax, Memory}
+use Rattle.qs_reader.specs.declared.text_end.TextEnd.{TextEnd}
+use Rattle.qs_reader.specs.declared.text_end.TextEnd.TheVariants.{Syntax, Memory}
 use Rattle.qs_ruletext.specs.Grammar.{rule, line}
 use Rattle.qs_pattern.specs.Named.{ArePatternsNamed, IsConditionNamed}
 use Rattle.qs_ruletext.specs.Reading.{ReadsSide, ReadsCond}
@@ -73,14 +75,6 @@ pub record ReadsWrittenRule (names : List (List ℕ)) (text : List ℕ) (ts : Li
 abbrev pub ReadsRules : List (List ℕ) → List ℕ → List Token → List WrittenRule → List Token → Type 0
 ReadsRules names text ts [] rest = ts ≡ rest
 ReadsRules names text ts (raw ∷ raws) rest = (middle : List Token) × ReadsWrittenRule names text ts raw middle × ReadsRules names text middle raws rest
-
--- the texts of `new` begin with those of `old`: each keeps its number
-abbrev pub KeepsNames : List (List ℕ) → List (List ℕ) → Type 0
-KeepsNames old new = (k : ℕ) (text : List ℕ) → slice_get old k ≡ Some text → slice_get new k ≡ Some text
-
--- the tokens from one place up to another
-abbrev pub between : List Token → ℕ → ℕ → List Token
-between tokens from to = take (to - from) (drop from tokens)
 
 -- from `from` on stand whole rules, and then a rule that is begun, isn't whole, and can't go on with the token at `at`, or with
 -- the end of the tokens

@@ -2,7 +2,8 @@
 use Rattle.std.specs.Prelude.{◌≡◌, ℕ, ◌≤◌, List, Some, slice_get, not}
 use Rattle.qs_lex.specs.Characters.{ends_line, Each}
 use Rattle.qs_pattern.specs.Patterns.{count}
-use Rattle.qs_pattern.specs.Conditions.{Condition, Conditions, EachList, EachListOfAll}
+use Rattle.qs_pattern.specs.Conditions.{Condition, Conditions, EachList}
+use Rattle.qs_pattern.specs.working.Conditions.{EachListOfAll}
 use Rattle.qs_pattern.specs.Rules.{UnmarkedRule}
 use Rattle.qs_ruletext.specs.Texts.{rule_text}
 

@@ -1,19 +1,21 @@
 //! Conditions, read from tokens.
 
-ghost use Rattle.std.specs.Prelude.{◌≡◌, ℕ, ◌^◌, ◌+◌, ◌<◌, ◌≤◌, IfOk, IfErr, [], ◌∷◌, length};
-ghost use Rattle.qs_lex.specs.Grammar.{the_word, opening, closing, comma, one, part, ◌·◌, ◌∣◌};
-ghost use Rattle.qs_pattern.specs.Conditions.{condition_of, conditions};
-ghost use Rattle.qs_ruletext.specs.Grammar.{list, cond, conj, neg, prim};
+ghost use Rattle.std.specs.Prelude.{◌≡◌, ◌^◌, ◌+◌, ◌<◌, IfOk, IfErr, length};
+ghost use Rattle.qs_lex.specs.Grammar.{part};
+ghost use Rattle.qs_pattern.specs.Conditions.{condition_of};
+ghost use Rattle.qs_pattern.specs.working.Conditions.{conditions};
+ghost use Rattle.qs_reader.specs.Names.{KeepsNames};
+ghost use Rattle.qs_reader.specs.Readers.{rest_of};
+ghost use Rattle.qs_ruletext.specs.Grammar.{cond, conj, neg, prim};
 ghost use Rattle.qs_ruletext.specs.Reading.{any_of, all_of, ReadsCond, ReadsConj, ReadsNeg, ReadsPrim};
-ghost use Rattle.qs_ruletext.specs.Rules.{KeepsNames};
-ghost use Rattle.qs_ruletext.specs.Cursors.{Readable, IsRead, Ends};
+ghost use Rattle.qs_ruletext.specs.Readers.{a_comparison, IsRead, Ends};
 
-use crate::cursor::{Halt, behind, expect};
 use crate::sides::list;
-use qs_lex::{Kind, Token, Word};
+use qs_lex::{Kind, Word};
 use qs_pattern::Cond;
+use qs_reader::{Reader, TextEnd};
 use qs_tree::Names;
-use std::alloc::{AllocError, Global};
+use std::alloc::AllocError;
 
 /// The first condition, or where there are more, that some of all of them holds.
 fn first_or_any(first: Cond, more: Vec<Cond>) -> Result<Cond, AllocError>
@@ -40,115 +42,83 @@ fn first_or_all(first: Cond, more: Vec<Cond>) -> Result<Cond, AllocError>
 }
 
 /// Two lists, compared.
-fn comparison<'t>(
-    alloc: Global,
-    text: &str,
-    tokens: &'t [Token],
-    names: &mut Names,
-) -> Result<(Cond, &'t [Token]), Halt>
-    requires of_text { Readable text.now tokens.now }
-    requires room { length names.old + length tokens.now < 2 ^ 32 }
+fn comparison(reader: &mut Reader<'_>, names: &mut Names) -> Result<Cond, TextEnd>
+    requires room { length names.old + length (rest_of reader.old) < 2 ^ 32 }
     ensures keeps { KeepsNames names.old names.new }
-    ensures read { IfOk result (λ found. IsRead (part list · (one (the_word Word.Dans) ∣ one (the_word Word.Hors)) · part list) (comma ∷ opening ∷ []) (λ later. ReadsPrim later text.now tokens.now (condition_of found.0) found.1.now) text.now tokens.now found.1.now names.old names.new) }
-    ensures ends { IfErr result (Ends (part list · (one (the_word Word.Dans) ∣ one (the_word Word.Hors)) · part list) (comma ∷ opening ∷ []) tokens.now) }
+    ensures read { IfOk result (λ found. IsRead a_comparison (λ names text ts rest. ReadsPrim names text ts (condition_of found) rest) reader.old reader.new names.old names.new) }
+    ensures ends { IfErr result (Ends a_comparison reader.old) }
 {
-    let (a, end) = list(alloc, text, tokens, names)?;
-    if let Some(after) = behind(end, Kind::Word(Word::Dans)) {
-        let (b, rest) = list(alloc, text, after, names)?;
-        return Ok((Cond::Within { a, b }, rest));
+    let a = list(reader, names)?;
+    if reader.pass(Kind::Word(Word::Dans)) {
+        let b = list(reader, names)?;
+        return Ok(Cond::Within { a, b });
     }
-    let after = expect(end, Kind::Word(Word::Hors))?;
-    let (b, rest) = list(alloc, text, after, names)?;
-    Ok((Cond::Outside { a, b }, rest))
+    reader.expect(Kind::Word(Word::Hors))?;
+    let b = list(reader, names)?;
+    Ok(Cond::Outside { a, b })
 }
 
 /// A condition in parentheses, or two lists compared.
 #[cycle(conditions)]
-fn primary<'t>(
-    alloc: Global,
-    text: &str,
-    tokens: &'t [Token],
-    names: &mut Names,
-) -> Result<(Cond, &'t [Token]), Halt>
-    requires of_text { Readable text.now tokens.now }
-    requires room { length names.old + length tokens.now < 2 ^ 32 }
+fn primary(reader: &mut Reader<'_>, names: &mut Names) -> Result<Cond, TextEnd>
+    requires room { length names.old + length (rest_of reader.old) < 2 ^ 32 }
     ensures keeps { KeepsNames names.old names.new }
-    ensures read { IfOk result (λ found. IsRead (part prim) (comma ∷ opening ∷ []) (λ later. ReadsPrim later text.now tokens.now (condition_of found.0) found.1.now) text.now tokens.now found.1.now names.old names.new) }
-    ensures ends { IfErr result (Ends (part prim) (comma ∷ opening ∷ []) tokens.now) }
+    ensures read { IfOk result (λ found. IsRead (part prim) (λ names text ts rest. ReadsPrim names text ts (condition_of found) rest) reader.old reader.new names.old names.new) }
+    ensures ends { IfErr result (Ends (part prim) reader.old) }
 {
-    let Some(inside) = behind(tokens, Kind::Opening) else {
-        return comparison(alloc, text, tokens, names);
-    };
-    let (member, end) = condition(alloc, text, inside, names)?;
-    let rest = expect(end, Kind::Closing)?;
-    Ok((member, rest))
+    if !reader.pass(Kind::Opening) {
+        return comparison(reader, names);
+    }
+    let member = condition(reader, names)?;
+    reader.expect(Kind::Closing)?;
+    Ok(member)
 }
 
 /// What may be negated.
 #[cycle(conditions)]
-fn negation<'t>(
-    alloc: Global,
-    text: &str,
-    tokens: &'t [Token],
-    names: &mut Names,
-) -> Result<(Cond, &'t [Token]), Halt>
-    requires of_text { Readable text.now tokens.now }
-    requires room { length names.old + length tokens.now < 2 ^ 32 }
+fn negation(reader: &mut Reader<'_>, names: &mut Names) -> Result<Cond, TextEnd>
+    requires room { length names.old + length (rest_of reader.old) < 2 ^ 32 }
     ensures keeps { KeepsNames names.old names.new }
-    ensures read { IfOk result (λ found. IsRead (part neg) (comma ∷ opening ∷ []) (λ later. ReadsNeg later text.now tokens.now (condition_of found.0) found.1.now) text.now tokens.now found.1.now names.old names.new) }
-    ensures ends { IfErr result (Ends (part neg) (comma ∷ opening ∷ []) tokens.now) }
+    ensures read { IfOk result (λ found. IsRead (part neg) (λ names text ts rest. ReadsNeg names text ts (condition_of found) rest) reader.old reader.new names.old names.new) }
+    ensures ends { IfErr result (Ends (part neg) reader.old) }
 {
-    let Some(after) = behind(tokens, Kind::Word(Word::Non)) else {
-        return primary(alloc, text, tokens, names);
-    };
-    let (member, rest) = primary(alloc, text, after, names)?;
-    Ok((Cond::Not(Box::new(alloc, member)?), rest))
+    if !reader.pass(Kind::Word(Word::Non)) {
+        return primary(reader, names);
+    }
+    let member = primary(reader, names)?;
+    Ok(Cond::Not(Box::new(reader.alloc(), member)?))
 }
 
 /// Conditions all of which hold.
 #[cycle(conditions)]
-fn conjunction<'t>(
-    alloc: Global,
-    text: &str,
-    tokens: &'t [Token],
-    names: &mut Names,
-) -> Result<(Cond, &'t [Token]), Halt>
-    requires of_text { Readable text.now tokens.now }
-    requires room { length names.old + length tokens.now < 2 ^ 32 }
+fn conjunction(reader: &mut Reader<'_>, names: &mut Names) -> Result<Cond, TextEnd>
+    requires room { length names.old + length (rest_of reader.old) < 2 ^ 32 }
     ensures keeps { KeepsNames names.old names.new }
-    ensures read { IfOk result (λ found. IsRead (part conj) (the_word Word.Et ∷ comma ∷ opening ∷ []) (λ later. ReadsConj later text.now tokens.now (condition_of found.0) found.1.now) text.now tokens.now found.1.now names.old names.new) }
-    ensures ends { IfErr result (Ends (part conj) (the_word Word.Et ∷ comma ∷ opening ∷ []) tokens.now) }
+    ensures read { IfOk result (λ found. IsRead (part conj) (λ names text ts rest. ReadsConj names text ts (condition_of found) rest) reader.old reader.new names.old names.new) }
+    ensures ends { IfErr result (Ends (part conj) reader.old) }
 {
-    let (first, mut rest) = negation(alloc, text, tokens, names)?;
-    let mut more = Vec::new(alloc);
-    while let Some(after) = behind(rest, Kind::Word(Word::Et)) {
-        let (next, end) = negation(alloc, text, after, names)?;
+    let first = negation(reader, names)?;
+    let mut more = Vec::new(reader.alloc());
+    while reader.pass(Kind::Word(Word::Et)) {
+        let next = negation(reader, names)?;
         more.push(next)?;
-        rest = end;
     }
-    Ok((first_or_all(first, more)?, rest))
+    Ok(first_or_all(first, more)?)
 }
 
 /// Conditions some of which holds.
 #[cycle(conditions)]
-pub fn condition<'t>(
-    alloc: Global,
-    text: &str,
-    tokens: &'t [Token],
-    names: &mut Names,
-) -> Result<(Cond, &'t [Token]), Halt>
-    requires of_text { Readable text.now tokens.now }
-    requires room { length names.old + length tokens.now < 2 ^ 32 }
+pub fn condition(reader: &mut Reader<'_>, names: &mut Names) -> Result<Cond, TextEnd>
+    requires room { length names.old + length (rest_of reader.old) < 2 ^ 32 }
     ensures keeps { KeepsNames names.old names.new }
-    ensures read { IfOk result (λ found. IsRead (part cond) (the_word Word.Ou ∷ the_word Word.Et ∷ comma ∷ opening ∷ []) (λ later. ReadsCond later text.now tokens.now (condition_of found.0) found.1.now) text.now tokens.now found.1.now names.old names.new) }
-    ensures ends { IfErr result (Ends (part cond) (the_word Word.Ou ∷ the_word Word.Et ∷ comma ∷ opening ∷ []) tokens.now) }
+    ensures read { IfOk result (λ found. IsRead (part cond) (λ names text ts rest. ReadsCond names text ts (condition_of found) rest) reader.old reader.new names.old names.new) }
+    ensures ends { IfErr result (Ends (part cond) reader.old) }
 {
-    let (first, mut rest) = conjunction(alloc, text, tokens, names)?;
-    let mut more = Vec::new(alloc);
-    while let Some(after) = behind(rest, Kind::Word(Word::Ou)) {
-        let (next, end) = conjunction(alloc, text, after, names)?;
+    let first = conjunction(reader, names)?;
+    let mut more = Vec::new(reader.alloc());
+    while reader.pass(Kind::Word(Word::Ou)) {
+        let next = conjunction(reader, names)?;
         more.push(next)?;
-        rest = end;
     }
-    Ok((first_or_any(first, more)?, rest))
+    Ok(first_or_any(first, more)?)
 }

@@ -21,8 +21,8 @@ mod rules;
 mod sides;
 mod writing;
 
-pub use raw::{RawRule, TextEnd};
+pub use qs_reader::{TextEnd, label_of};
+pub use raw::RawRule;
 pub use rules::read_rules;
-pub use sides::label_of;
 pub use std::alloc::AllocError as Memory;
 pub use writing::write_rule;

@@ -1,7 +1,6 @@
 //! Rules as they are read.
 
 use qs_pattern::{Cond, Pattern};
-use std::alloc::{AllocError, AllocFailed};
 use std::marker::Model;
 
 /// A rule as it was read, with no limit on its sides, cells and variables.
@@ -29,36 +28,4 @@ impl Model for RawRule {
     ghost coded = { written_rule_code };
 
     ghost view = { λ r. record { rule = record { left = patterns r.left.items; right = patterns r.right.items; condition = option_map condition_of r.cond }; at = r.at.items } };
-}
-
-/// Why no rules were read.
-#[derive(Clone, Copy, Debug, PartialEq, Eq)]
-pub enum TextEnd {
-    /// A rule that was begun can't go on with the token at this place of the list of tokens; the length of the list where
-    /// the tokens end within a rule.
-    Syntax(usize),
-    /// There was no memory. It may come at any time.
-    Memory,
-}
-
-impl From<AllocError> for TextEnd {
-    ghost use Rattle.std.specs.Prelude.{◌≡◌};
-    ghost use Rattle.qs_ruletext.specs.declared.raw.TextEnd.TheVariants.{Memory};
-
-    ghost from_gives = { λ _ e. e ≡ Memory };
-
-    fn from(_: AllocError) -> TextEnd {
-        TextEnd::Memory
-    }
-}
-
-impl<T: Drop> From<AllocFailed<T>> for TextEnd {
-    ghost use Rattle.std.specs.Prelude.{◌≡◌};
-    ghost use Rattle.qs_ruletext.specs.declared.raw.TextEnd.TheVariants.{Memory};
-
-    ghost from_gives = { λ _ e. e ≡ Memory };
-
-    fn from(_: AllocFailed<T>) -> TextEnd {
-        TextEnd::Memory
-    }
 }

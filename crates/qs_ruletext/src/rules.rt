@@ -1,46 +1,39 @@
 //! Rules, read from tokens.
 
-ghost use Rattle.std.specs.Prelude.{◌≡◌, ℕ, ◌^◌, ◌+◌, ◌-◌, ◌<◌, ◌≤◌, Some, [], ◌∷◌, length, drop, option_map};
+ghost use Rattle.std.specs.Prelude.{◌≡◌, ℕ, ◌^◌, ◌+◌, ◌<◌, ◌≤◌, length, drop, option_map};
 ghost use Rattle.std.specs.Prelude.{IfOk, IfErr, IsErr};
 ghost use Rattle.std.specs.List.{All};
-ghost use Rattle.qs_lex.specs.declared.token.Token.{Token};
-ghost use Rattle.qs_lex.specs.declared.token.Word.TheVariants.{Et, Ou};
 ghost use Rattle.qs_lex.specs.Tokens.{AreTokensOf};
 ghost use Rattle.qs_lex.specs.Nesting.{IsTooDeep};
-ghost use Rattle.qs_lex.specs.Grammar.{opening, plus, comma, the_word, slash, one, part, ◌·◌, optional, repeated, IsWhole};
+ghost use Rattle.qs_lex.specs.Grammar.{part, repeated, IsWhole};
 ghost use Rattle.qs_pattern.specs.Conditions.{condition_of};
-ghost use Rattle.qs_ruletext.specs.Grammar.{rule, cond, line};
-ghost use Rattle.qs_ruletext.specs.Rules.{KeepsNames, ReadsCondIfGiven, ReadsWrittenRule, ReadsRules, is_cell, cell_bytes, CannotGoOn, NoRuleAt, EndsFrom, IsWellRead, between};
-ghost use Rattle.qs_ruletext.specs.Names.{NamesGrow};
-ghost use Rattle.qs_ruletext.specs.Cursors.{Readable, IsRead, Ends, BeginsTree};
+ghost use Rattle.qs_reader.specs.Names.{KeepsNames, NamesGrow};
+ghost use Rattle.qs_reader.specs.Readers.{rest_of, between};
+ghost use Rattle.qs_ruletext.specs.Grammar.{rule, line};
+ghost use Rattle.qs_ruletext.specs.Rules.{ReadsCondIfGiven, ReadsWrittenRule, ReadsRules, is_cell, cell_bytes, CannotGoOn, NoRuleAt, EndsFrom, IsWellRead};
+ghost use Rattle.qs_ruletext.specs.Readers.{condition_if_any, IsRead, Ends};
 
 use crate::conditions::condition;
-use crate::cursor::{Halt, begins_tree, behind, expect};
-use crate::raw::{RawRule, TextEnd};
-use crate::sides::side;
+use crate::raw::RawRule;
+use crate::sides::{is_at_tree, side};
 use qs_lex::{Kind, Token};
 use qs_pattern::Cond;
+use qs_reader::{Reader, TextEnd};
 use qs_tree::Names;
 use std::alloc::{AllocError, Global};
 
 /// The condition of a rule, if one stands here.
-fn condition_if_given<'t>(
-    alloc: Global,
-    text: &str,
-    tokens: &'t [Token],
-    names: &mut Names,
-) -> Result<(Option<Cond>, &'t [Token]), Halt>
-    requires of_text { Readable text.now tokens.now }
-    requires room { length names.old + length tokens.now < 2 ^ 32 }
+fn condition_if_given(reader: &mut Reader<'_>, names: &mut Names) -> Result<Option<Cond>, TextEnd>
+    requires room { length names.old + length (rest_of reader.old) < 2 ^ 32 }
     ensures keeps { KeepsNames names.old names.new }
-    ensures read { IfOk result (λ found. IsRead (optional (one slash · part cond)) (slash ∷ the_word Ou ∷ the_word Et ∷ comma ∷ opening ∷ []) (λ later. ReadsCondIfGiven later text.now tokens.now (option_map condition_of found.0) found.1.now) text.now tokens.now found.1.now names.old names.new) }
-    ensures ends { IfErr result (Ends (optional (one slash · part cond)) (slash ∷ the_word Ou ∷ the_word Et ∷ comma ∷ opening ∷ []) tokens.now) }
+    ensures read { IfOk result (λ found. IsRead condition_if_any (λ names text ts rest. ReadsCondIfGiven names text ts (option_map condition_of found) rest) reader.old reader.new names.old names.new) }
+    ensures ends { IfErr result (Ends condition_if_any reader.old) }
 {
-    let Some(after) = behind(tokens, Kind::Slash) else {
-        return Ok((None, tokens));
-    };
-    let (cond, rest) = condition(alloc, text, after, names)?;
-    Ok((Some(cond), rest))
+    if !reader.pass(Kind::Slash) {
+        return Ok(None);
+    }
+    let cond = condition(reader, names)?;
+    Ok(Some(cond))
 }
 
 /// Whether the token is a label or a variable.
@@ -64,46 +57,26 @@ fn bytes_of_cells(alloc: Global, tokens: &[Token]) -> Result<Vec<u32>, AllocErro
 }
 
 /// A rule.
-fn rule<'t>(
-    alloc: Global,
-    text: &str,
-    tokens: &'t [Token],
-    names: &mut Names,
-) -> Result<(RawRule, &'t [Token]), Halt>
-    requires of_text { Readable text.now tokens.now }
-    requires room { length names.old + length tokens.now < 2 ^ 32 }
+fn rule(reader: &mut Reader<'_>, names: &mut Names) -> Result<RawRule, TextEnd>
+    requires room { length names.old + length (rest_of reader.old) < 2 ^ 32 }
     ensures keeps { KeepsNames names.old names.new }
-    ensures read { IfOk result (λ found. IsRead (part rule) [] (λ later. ReadsWrittenRule later text.now tokens.now found.0 found.1.now) text.now tokens.now found.1.now names.old names.new) }
-    ensures shorter { IfOk result (λ found. length found.1.now < length tokens.now) }
-    ensures ends { IfErr result (Ends (part rule) [] tokens.now) }
+    ensures read { IfOk result (λ raw. IsRead (part rule) (λ names text ts rest. ReadsWrittenRule names text ts raw rest) reader.old reader.new names.old names.new) }
+    ensures shorter { IfOk result (λ _. length (rest_of reader.new) < length (rest_of reader.old)) }
+    ensures ends { IfErr result (Ends (part rule) reader.old) }
 {
-    let (left, end) = side(alloc, text, tokens, names)?;
-    let after = expect(end, Kind::Equals)?;
-    let (right, end) = side(alloc, text, after, names)?;
-    let (cond, end) = condition_if_given(alloc, text, end, names)?;
-    let rest = expect(end, Kind::Stop)?;
-    let at = bytes_of_cells(alloc, &tokens[..tokens.len() - rest.len()])?;
-    let raw = RawRule {
+    let from = reader.place();
+    let left = side(reader, names)?;
+    reader.expect(Kind::Equals)?;
+    let right = side(reader, names)?;
+    let cond = condition_if_given(reader, names)?;
+    reader.expect(Kind::Stop)?;
+    let at = bytes_of_cells(reader.alloc(), reader.since(from))?;
+    Ok(RawRule {
         left,
         right,
         cond,
         at,
-    };
-    Ok((raw, rest))
-}
-
-/// Where reading ended, by the place in the whole list of tokens: in a rule that was begun at the rest.
-fn text_end(halt: Halt, tokens: &[Token], rest: &[Token]) -> TextEnd
-    requires no_longer { length rest.now ≤ length tokens.now }
-    requires rest { rest.now ≡ drop (length tokens.now - length rest.now) tokens.now }
-    requires begins { BeginsTree rest.now }
-    requires ends { Ends (part rule) [] rest.now halt }
-    ensures { (from : ℕ) → IsWhole line (repeated (part rule)) (drop from tokens.now) rest.now → EndsFrom tokens.now from result }
-{
-    match halt {
-        Halt::Syntax { left } => TextEnd::Syntax(tokens.len() - rest.len() + (rest.len() - left)),
-        Halt::Memory => TextEnd::Memory,
-    }
+    })
 }
 
 /// The rules that stand in the tokens of the text from this place on, as far as the next token can begin one, and the place
@@ -140,16 +113,11 @@ pub fn read_rules(
     ensures faultless { (to : ℕ) → IsWhole line (repeated (part rule)) (drop from tokens.now) (drop to tokens.now)
         → NoRuleAt tokens.now to → IfErr result (λ end. end ≡ TextEnd.Memory) }
 {
+    let mut reader = Reader::new(alloc, text, tokens, from);
     let mut rules = Vec::new(alloc);
-    let mut rest = &tokens[from..];
-    while begins_tree(rest) {
-        match rule(alloc, text, rest, names) {
-            Ok((raw, end)) => {
-                rules.push(raw)?;
-                rest = end;
-            }
-            Err(halt) => return Err(text_end(halt, tokens, rest)),
-        }
+    while is_at_tree(&reader) {
+        let raw = rule(&mut reader, names)?;
+        rules.push(raw)?;
     }
-    Ok((rules, tokens.len() - rest.len()))
+    Ok((rules, reader.place()))
 }

@@ -1,175 +1,161 @@
 //! Trees, lists of trees and sides of rules, read from tokens.
 
-ghost use Rattle.std.specs.Prelude.{◌≡◌, ℕ, ◌^◌, ◌+◌, ◌<◌, ◌≤◌, IfOk, IfErr, [], ◌∷◌, length};
-ghost use Rattle.qs_lex.specs.Tokens.{IsTokenOf, IsLabel};
-ghost use Rattle.qs_lex.specs.Grammar.{opening, closing, comma, plus, one, part, ◌·◌, optional};
-ghost use Rattle.qs_pattern.specs.Patterns.{one_pattern, patterns};
+ghost use Rattle.std.specs.Prelude.{◌≡◌, ◌^◌, ◌+◌, ◌<◌, false, IfOk, IfErr, IfSome, IfNone, IsTrue, IsFalse, length};
+ghost use Rattle.qs_lex.specs.Grammar.{sort_of, part};
+ghost use Rattle.qs_lex.specs.Expecting.{NextIsNo};
+ghost use Rattle.qs_pattern.specs.Patterns.{patterns};
+ghost use Rattle.qs_pattern.specs.working.Patterns.{one_pattern};
+ghost use Rattle.qs_reader.specs.Names.{KeepsNames};
+ghost use Rattle.qs_reader.specs.Readers.{rest_of, IsNext, Stays};
 ghost use Rattle.qs_ruletext.specs.Grammar.{tree, list, item, side};
-ghost use Rattle.qs_ruletext.specs.Reading.{IsLabelOf, ReadsTree, ReadsSubtrees, ReadsList, ReadsItem, ReadsSide};
-ghost use Rattle.qs_ruletext.specs.Rules.{KeepsNames};
-ghost use Rattle.qs_ruletext.specs.Names.{AddsNameOf};
-ghost use Rattle.qs_ruletext.specs.Cursors.{Readable, IsRead, Ends, IsHeadRead, EndsAtHead};
+ghost use Rattle.qs_ruletext.specs.Reading.{ReadsTree, ReadsSubtrees, ReadsList, ReadsItem, ReadsSide};
+ghost use Rattle.qs_ruletext.specs.Readers.{is_variable, IsGood, sort_of_class, PassesVariable, begins_tree, IsTreeSort, BeginsTree, a_head, in_parentheses, ReadsHead, IsRead, Ends};
 
-use crate::cursor::{Halt, Start, behind, expect, forest_variable, next, start_of, tree_variable};
-use qs_lex::{Kind, Token, label_text};
-use qs_pattern::{Head, Pattern};
-use qs_tree::{Label, Names};
-use std::alloc::{AllocError, Global};
+use qs_lex::Kind;
+use qs_pattern::{Head, Pattern, Var, VarClass};
+use qs_reader::{Reader, TextEnd};
+use qs_tree::Names;
 
-/// The label that the token is.
-pub fn label_of(
-    alloc: Global,
-    text: &str,
-    token: &Token,
-    names: &mut Names,
-) -> Result<Label, AllocError>
-    requires of_text { IsTokenOf text.now token.now }
-    requires label { IsLabel token.now }
-    requires room { length names.old + 1 < 2 ^ 32 }
-    ensures keeps { KeepsNames names.old names.new }
-    ensures label { IfOk result (λ label. (later : _) → KeepsNames names.new later → IsLabelOf later text.now token.now label) }
-    ensures adds { IfOk result (λ _. AddsNameOf text.now token.now names.old names.new) }
-    ensures few { IfOk result (λ _. length names.new ≤ length names.old + 1) }
+/// The variable that a token of this kind is.
+fn variable_of(kind: Kind) -> Option<Var>
+    requires { IsGood kind }
+    ensures some { IfSome result (λ var. kind ≡ Kind.Variable var.letter var.number) }
+    ensures none { IfNone result (is_variable (sort_of kind) ≡ false) }
 {
-    names.intern(&label_text(alloc, text, token)?)
+    match kind {
+        Kind::Variable { letter, number } => Var::new(letter, number),
+        _ => None,
+    }
+}
+
+/// The variable of this class that the next token is, which is passed. None where it is none.
+fn variable(reader: &mut Reader<'_>, class: VarClass) -> Option<Var>
+    ensures some { IfSome result (λ var. PassesVariable (sort_of_class class) var reader.old reader.new) }
+    ensures none { IfNone result (Stays (sort_of_class class) reader.old reader.new) }
+{
+    let var = variable_of(reader.peek()?.kind)?;
+    if var.class() != class {
+        return None;
+    }
+    reader.take();
+    Some(var)
+}
+
+/// Whether a token of this kind begins a tree.
+fn begins_tree(kind: Kind) -> bool
+    ensures yes { IsTrue result → IsTreeSort (sort_of kind) }
+    ensures no { IsFalse result → begins_tree (sort_of kind) ≡ false }
+{
+    match kind {
+        Kind::Bare | Kind::Quoted => true,
+        Kind::Variable { letter, .. } => matches!(letter, b'A'..=b'F' | b'I'..=b'N'),
+        _ => false,
+    }
+}
+
+/// Whether the next token begins a tree.
+pub fn is_at_tree(reader: &Reader<'_>) -> bool
+    ensures yes { IsTrue result → BeginsTree reader.now }
+    ensures no { IsFalse result → NextIsNo begins_tree (rest_of reader.now) }
+{
+    match reader.peek() {
+        Some(next) => begins_tree(next.kind),
+        None => false,
+    }
 }
 
 /// A label or a label variable.
-fn head<'t>(
-    alloc: Global,
-    text: &str,
-    tokens: &'t [Token],
-    names: &mut Names,
-) -> Result<(Head, &'t [Token]), Halt>
-    requires of_text { Readable text.now tokens.now }
-    requires room { length names.old + length tokens.now < 2 ^ 32 }
+fn head(reader: &mut Reader<'_>, names: &mut Names) -> Result<Head, TextEnd>
+    requires room { length names.old + length (rest_of reader.old) < 2 ^ 32 }
     ensures keeps { KeepsNames names.old names.new }
-    ensures read { IfOk result (λ found. IsHeadRead text.now tokens.now found.0 found.1.now names.old names.new) }
-    ensures ends { IfErr result (EndsAtHead tokens.now) }
+    ensures shorter { IfOk result (λ _. length (rest_of reader.new) < length (rest_of reader.old)) }
+    ensures read { IfOk result (λ head. IsRead a_head (ReadsHead head) reader.old reader.new names.old names.new) }
+    ensures ends { IfErr result (Ends a_head reader.old) }
 {
-    let Some((first, rest)) = next(tokens) else {
-        return Err(Halt::Syntax { left: 0 });
-    };
-    match start_of(first.kind) {
-        Some(Start::Label) => {
-            let label = label_of(alloc, text, first, names)?;
-            Ok((Head::Label(label), rest))
-        }
-        Some(Start::LabelVariable(var)) => Ok((Head::Var(var), rest)),
-        _ => Err(Halt::Syntax { left: tokens.len() }),
+    match variable(reader, VarClass::Label) {
+        Some(var) => Ok(Head::Var(var)),
+        None => Ok(Head::Label(reader.label(names)?)),
     }
 }
 
 /// What stands in parentheses behind a head, if anything does.
 #[cycle(trees)]
-fn subtrees<'t>(
-    alloc: Global,
-    text: &str,
-    tokens: &'t [Token],
-    names: &mut Names,
-) -> Result<(Vec<Pattern>, &'t [Token]), Halt>
-    requires of_text { Readable text.now tokens.now }
-    requires room { length names.old + length tokens.now < 2 ^ 32 }
+fn subtrees(reader: &mut Reader<'_>, names: &mut Names) -> Result<Vec<Pattern>, TextEnd>
+    requires room { length names.old + length (rest_of reader.old) < 2 ^ 32 }
     ensures keeps { KeepsNames names.old names.new }
-    ensures read { IfOk result (λ found. IsRead (optional (one opening · optional (part list) · one closing)) (opening ∷ []) (λ later. ReadsSubtrees later text.now tokens.now (patterns found.0.items) found.1.now) text.now tokens.now found.1.now names.old names.new) }
-    ensures ends { IfErr result (Ends (optional (one opening · optional (part list) · one closing)) (opening ∷ []) tokens.now) }
+    ensures read { IfOk result (λ kids. IsRead in_parentheses (λ names text ts rest. ReadsSubtrees names text ts (patterns kids.items) rest) reader.old reader.new names.old names.new) }
+    ensures ends { IfErr result (Ends in_parentheses reader.old) }
 {
-    let Some(inside) = behind(tokens, Kind::Opening) else {
-        return Ok((Vec::new(alloc), tokens));
-    };
-    if let Some(rest) = behind(inside, Kind::Closing) {
-        return Ok((Vec::new(alloc), rest));
+    if !reader.pass(Kind::Opening) {
+        return Ok(Vec::new(reader.alloc()));
     }
-    let (kids, end) = list(alloc, text, inside, names)?;
-    let rest = expect(end, Kind::Closing)?;
-    Ok((kids, rest))
+    if reader.pass(Kind::Closing) {
+        return Ok(Vec::new(reader.alloc()));
+    }
+    let kids = list(reader, names)?;
+    reader.expect(Kind::Closing)?;
+    Ok(kids)
 }
 
 /// A tree.
 #[cycle(trees)]
-fn tree<'t>(
-    alloc: Global,
-    text: &str,
-    tokens: &'t [Token],
-    names: &mut Names,
-) -> Result<(Pattern, &'t [Token]), Halt>
-    requires of_text { Readable text.now tokens.now }
-    requires room { length names.old + length tokens.now < 2 ^ 32 }
+fn tree(reader: &mut Reader<'_>, names: &mut Names) -> Result<Pattern, TextEnd>
+    requires room { length names.old + length (rest_of reader.old) < 2 ^ 32 }
     ensures keeps { KeepsNames names.old names.new }
-    ensures read { IfOk result (λ found. IsRead (part tree) (opening ∷ []) (λ later. ReadsTree later text.now tokens.now (one_pattern found.0) found.1.now) text.now tokens.now found.1.now names.old names.new) }
-    ensures ends { IfErr result (Ends (part tree) (opening ∷ []) tokens.now) }
+    ensures read { IfOk result (λ found. IsRead (part tree) (λ names text ts rest. ReadsTree names text ts (one_pattern found) rest) reader.old reader.new names.old names.new) }
+    ensures ends { IfErr result (Ends (part tree) reader.old) }
 {
-    if let Some((var, rest)) = tree_variable(tokens) {
-        return Ok((Pattern::Tree(var), rest));
+    if let Some(var) = variable(reader, VarClass::Tree) {
+        return Ok(Pattern::Tree(var));
     }
-    let (head, rest) = head(alloc, text, tokens, names)?;
-    let (kids, end) = subtrees(alloc, text, rest, names)?;
-    Ok((Pattern::Node { head, kids }, end))
+    let head = head(reader, names)?;
+    let kids = subtrees(reader, names)?;
+    Ok(Pattern::Node { head, kids })
 }
 
 /// An item of a list.
 #[cycle(trees)]
-fn item<'t>(
-    alloc: Global,
-    text: &str,
-    tokens: &'t [Token],
-    names: &mut Names,
-) -> Result<(Pattern, &'t [Token]), Halt>
-    requires of_text { Readable text.now tokens.now }
-    requires room { length names.old + length tokens.now < 2 ^ 32 }
+fn item(reader: &mut Reader<'_>, names: &mut Names) -> Result<Pattern, TextEnd>
+    requires room { length names.old + length (rest_of reader.old) < 2 ^ 32 }
     ensures keeps { KeepsNames names.old names.new }
-    ensures read { IfOk result (λ found. IsRead (part item) (opening ∷ []) (λ later. ReadsItem later text.now tokens.now (one_pattern found.0) found.1.now) text.now tokens.now found.1.now names.old names.new) }
-    ensures ends { IfErr result (Ends (part item) (opening ∷ []) tokens.now) }
+    ensures read { IfOk result (λ one. IsRead (part item) (λ names text ts rest. ReadsItem names text ts (one_pattern one) rest) reader.old reader.new names.old names.new) }
+    ensures ends { IfErr result (Ends (part item) reader.old) }
 {
-    match forest_variable(tokens) {
-        Some((var, rest)) => Ok((Pattern::Forest(var), rest)),
-        None => tree(alloc, text, tokens, names),
+    match variable(reader, VarClass::Forest) {
+        Some(var) => Ok(Pattern::Forest(var)),
+        None => tree(reader, names),
     }
 }
 
 /// A list.
 #[cycle(trees)]
-pub fn list<'t>(
-    alloc: Global,
-    text: &str,
-    tokens: &'t [Token],
-    names: &mut Names,
-) -> Result<(Vec<Pattern>, &'t [Token]), Halt>
-    requires of_text { Readable text.now tokens.now }
-    requires room { length names.old + length tokens.now < 2 ^ 32 }
+pub fn list(reader: &mut Reader<'_>, names: &mut Names) -> Result<Vec<Pattern>, TextEnd>
+    requires room { length names.old + length (rest_of reader.old) < 2 ^ 32 }
     ensures keeps { KeepsNames names.old names.new }
-    ensures read { IfOk result (λ found. IsRead (part list) (comma ∷ opening ∷ []) (λ later. ReadsList later text.now tokens.now (patterns found.0.items) found.1.now) text.now tokens.now found.1.now names.old names.new) }
-    ensures ends { IfErr result (Ends (part list) (comma ∷ opening ∷ []) tokens.now) }
+    ensures read { IfOk result (λ found. IsRead (part list) (λ names text ts rest. ReadsList names text ts (patterns found.items) rest) reader.old reader.new names.old names.new) }
+    ensures ends { IfErr result (Ends (part list) reader.old) }
 {
-    let (first, mut rest) = item(alloc, text, tokens, names)?;
-    let mut items = vec![in alloc; first]?;
-    while let Some(after) = behind(rest, Kind::Comma) {
-        let (one, end) = item(alloc, text, after, names)?;
-        items.push(one)?;
-        rest = end;
+    let first = item(reader, names)?;
+    let mut items = vec![in reader.alloc(); first]?;
+    while reader.pass(Kind::Comma) {
+        let next = item(reader, names)?;
+        items.push(next)?;
     }
-    Ok((items, rest))
+    Ok(items)
 }
 
 /// A side of a rule.
-pub fn side<'t>(
-    alloc: Global,
-    text: &str,
-    tokens: &'t [Token],
-    names: &mut Names,
-) -> Result<(Vec<Pattern>, &'t [Token]), Halt>
-    requires of_text { Readable text.now tokens.now }
-    requires room { length names.old + length tokens.now < 2 ^ 32 }
+pub fn side(reader: &mut Reader<'_>, names: &mut Names) -> Result<Vec<Pattern>, TextEnd>
+    requires room { length names.old + length (rest_of reader.old) < 2 ^ 32 }
     ensures keeps { KeepsNames names.old names.new }
-    ensures read { IfOk result (λ found. IsRead (part side) (plus ∷ opening ∷ []) (λ later. ReadsSide later text.now tokens.now (patterns found.0.items) found.1.now) text.now tokens.now found.1.now names.old names.new) }
-    ensures ends { IfErr result (Ends (part side) (plus ∷ opening ∷ []) tokens.now) }
+    ensures read { IfOk result (λ found. IsRead (part side) (λ names text ts rest. ReadsSide names text ts (patterns found.items) rest) reader.old reader.new names.old names.new) }
+    ensures ends { IfErr result (Ends (part side) reader.old) }
 {
-    let (first, mut rest) = tree(alloc, text, tokens, names)?;
-    let mut trees = vec![in alloc; first]?;
-    while let Some(after) = behind(rest, Kind::Plus) {
-        let (one, end) = tree(alloc, text, after, names)?;
-        trees.push(one)?;
-        rest = end;
+    let first = tree(reader, names)?;
+    let mut trees = vec![in reader.alloc(); first]?;
+    while reader.pass(Kind::Plus) {
+        let next = tree(reader, names)?;
+        trees.push(next)?;
     }
-    Ok((trees, rest))
+    Ok(trees)
 }

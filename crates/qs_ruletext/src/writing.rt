@@ -1,7 +1,8 @@
 //! Rules as they are written, in UTF-8: the canonical spelling. (This project.)
 
 ghost use Rattle.std.specs.Prelude.{◌≡◌, ◌<◌, ◌++◌, length, take, option_map, OnOk, OnErr};
-ghost use Rattle.qs_pattern.specs.Patterns.{one_pattern, patterns, count};
+ghost use Rattle.qs_pattern.specs.Patterns.{patterns, count};
+ghost use Rattle.qs_pattern.specs.working.Patterns.{one_pattern};
 ghost use Rattle.qs_pattern.specs.Conditions.{condition_of};
 ghost use Rattle.qs_pattern.specs.Named.{IsHeadNamed, ArePatternsNamed, IsConditionNamed, IsNamedIfGiven};
 ghost use Rattle.qs_ruletext.specs.Texts.{variable_text, head_text, pattern_text, pattern_texts, joined, side_text, list_text, tightness, word_of, member_text, condition_text, condition_part, rule_text};

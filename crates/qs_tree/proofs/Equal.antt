@@ -6,7 +6,8 @@ use lib.Pointwise.{pointwise}
 use Rattle.std.proofs.lemmas.Slice.Eq.{slice_eq-Decides}
 use Rattle.qs_tree.specs.declared.cell.Cell.{Cell}
 use Rattle.qs_tree.specs.contracts.cell.CellPartialEq.TheImpl as cell
-use Rattle.qs_tree.specs.Trees.{Tree, kids, forest, forest-trees}
+use Rattle.qs_tree.specs.Trees.{Tree, kids, forest}
+use Rattle.qs_tree.specs.working.Trees.{forest-trees}
 use Rattle.qs_tree.specs.Cells.{cells_of, forest_in, trees_of, IsForest}
 
 cell_eq : (a b : Cell) → Decides (cell.eq-value.it a b) (a ≡ b)

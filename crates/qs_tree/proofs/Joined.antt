@@ -2,11 +2,13 @@
 use Rattle.std.proofs.Common.{◌≡◌, ℕ, suc, List, [], ◌∷◌, ◌++◌, length, sym, refl, ap, ◌∙◌, append_assoc, append-nil}
 use Rattle.qs_tree.specs.declared.cell.Label.{Label}
 use Rattle.qs_tree.specs.declared.cell.Cell.{Cell}
-use Rattle.qs_tree.specs.Trees.{Forest, no_tree, first_tree, Tree, trees, size, join, node, forest-trees}
-use Rattle.qs_tree.specs.Cells.{cells_of, cells_of_tree, forest_in, trees_of, tree_of, IsTree, IsForest, forest_in-cells_of, tree_of-cells_of_tree}
+use Rattle.qs_tree.specs.Trees.{Forest, no_tree, first_tree, Tree, trees, size, node}
+use Rattle.qs_tree.specs.working.Trees.{join, forest-trees}
+use Rattle.qs_tree.specs.Cells.{cells_of, cells_of_tree, forest_in, trees_of, tree_of, IsTree, IsForest}
+use Rattle.qs_tree.specs.working.Cells.{forest_in-cells_of, tree_of-cells_of_tree}
 use Rattle.qs_tree.proofs.Runs.{tree_cells, forest_cells, length-cells_of}
 
-cells_of-join : (g h : Forest) → cells_of (join g h) ≡ cells_of g ++ cells_of h
+pub cells_of-join : (g h : Forest) → cells_of (join g h) ≡ cells_of g ++ cells_of h
 cells_of-join no_tree h = refl
 cells_of-join (first_tree l k r) h =
     ap (λ xs. record { label = l; extent = suc (size k) } ∷ (cells_of k ++ xs)) (cells_of-join r h)

@@ -1,8 +1,9 @@
 -- Members of lists that are made from other lists.
-use Rattle.std.proofs.Common.{◌≡◌, ℕ, zero, suc, ◌+◌, ◌<◌, ◌≤◌, Bool, true, false, List, [], ◌∷◌, ◌++◌, length, map, refl, sym, ◌∙◌, ap, subst, inl, inr, ⊎_elim, ◌⊎◌, arith, Some, slice_get}
+use Rattle.std.proofs.Common.{◌≡◌, ℕ, zero, suc, ◌+◌, ◌<◌, ◌≤◌, Bool, true, false, List, [], ◌∷◌, ◌++◌, length, map, get_or, refl, sym, ◌∙◌, ap, subst, inl, inr, ⊎_elim, ◌⊎◌, arith, Some, slice_get}
 use Rattle.std.specs.Prelude.{if◌then◌else◌}
 use Rattle.std.specs.List.{filter, flat_map}
 use Rattle.std.proofs.lemmas.Bool.{cases_lt}
+use Rattle.std.proofs.lemmas.Option.{slice_get_read}
 use Rattle.qs_tree.specs.Lists.{◌∈◌}
 
 pub in_append_left : {X : Type 0} (xs ys : List X) (x : X) → x ∈ xs → x ∈ (xs ++ ys)
@@ -24,11 +25,22 @@ in_map f [] x i = absurd i
 in_map f (y ∷ xs) x (inl e) = inl (ap f e)
 in_map f (y ∷ xs) x (inr i) = inr (in_map f xs x i)
 
+-- a member of map f xs is f of a member of xs
+pub mapped : {X Y : Type 0} (f : X → Y) (xs : List X) (y : Y) → y ∈ map f xs → (x : X) × (x ∈ xs) × (y ≡ f x)
+mapped f [] y i = absurd i
+mapped f (x ∷ xs) y (inl e) = (x, inl refl, e)
+mapped f (x ∷ xs) y (inr i) = let (z, j, e) = mapped f xs y i in (z, inr j, e)
+
 -- what holds of each f x holds of the members of map f xs
 pub from_map : {X Y : Type 0} (f : X → Y) (xs : List X) (P : Y → Type 0) → ((x : X) → x ∈ xs → P (f x)) → (y : Y) → y ∈ map f xs → P y
 from_map f [] P h y i = absurd i
 from_map f (x ∷ xs) P h y (inl e) = subst P (sym e) (h x (inl refl))
 from_map f (x ∷ xs) P h y (inr i) = from_map f xs P (λ z j. h z (inr j)) y i
+
+-- functions that give the same for each member give the same list
+pub map-same : {X Y : Type 0} (f g : X → Y) (xs : List X) → ((x : X) → x ∈ xs → f x ≡ g x) → map f xs ≡ map g xs
+map-same f g [] same = refl
+map-same f g (x ∷ xs) same = let e : f x ≡ g x = same x (inl refl) in let d : map f xs ≡ map g xs = map-same f g xs (λ y i. same y (inr i)) in cc
 
 pub in_flat_map : {X Y : Type 0} (f : X → List Y) (xs : List X) (x : X) (y : Y) → x ∈ xs → y ∈ f x → y ∈ flat_map f xs
 in_flat_map f [] x y i j = absurd i
@@ -59,6 +71,19 @@ pub in_at : {X : Type 0} (xs : List X) (k : ℕ) (x : X) → slice_get xs k ≡ 
 in_at [] k x e = absurd cc
 in_at (y ∷ xs) zero x e = let same : y ≡ x = cc in inl (sym same)
 in_at (y ∷ xs) (suc k) x e = inr (in_at xs k x e)
+
+pub in_get_or : {X : Type 0} (xs : List X) (k : ℕ) (d : X) → k < length xs → get_or xs k d ∈ xs
+in_get_or [] k d l = absurd (omega arith)
+in_get_or (x ∷ xs) zero d l = inl refl
+in_get_or (x ∷ xs) (suc k) d l = inr (in_get_or xs k d (omega arith))
+
+-- and so is what was read there
+pub in_read : {X : Type 0} (xs : List X) (k : ℕ) (x : X) → k < length xs → x ≡ get_or xs k x → x ∈ xs
+in_read xs k x l e = subst (λ y. y ∈ xs) (sym e) (in_get_or xs k x l)
+
+-- what was read at a place stands there
+pub at_place : {X : Type 0} (xs : List X) (k : ℕ) (x : X) → k < length xs → x ≡ get_or xs k x → slice_get xs k ≡ Some x
+at_place xs k x l e = slice_get_read xs (length xs) k x refl l e
 
 -- the numbers of a list's members, from n on
 abbrev pub numbers_from : {X : Type 0} → ℕ → List X → List ℕ

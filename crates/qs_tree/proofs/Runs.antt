@@ -5,7 +5,8 @@ use Rattle.std.proofs.Math.Seq.{take-append_seam, drop-append_seam}
 use Rattle.qs_tree.specs.declared.cell.Label.{Label}
 use Rattle.qs_tree.specs.declared.cell.Cell.{Cell}
 use Rattle.qs_tree.specs.Trees.{Forest, no_tree, first_tree, Tree, trees, size}
-use Rattle.qs_tree.specs.Cells.{cells_of, cells_of_tree, forest_in, trees_of, tree_of, IsTree, IsForest, forest_in-cells_of, tree_of-cells_of_tree}
+use Rattle.qs_tree.specs.Cells.{cells_of, cells_of_tree, forest_in, trees_of, tree_of, IsTree, IsForest}
+use Rattle.qs_tree.specs.working.Cells.{forest_in-cells_of, tree_of-cells_of_tree}
 
 pub length-cells_of : (g : Forest) → length (cells_of g) ≡ size g
 length-cells_of no_tree = refl

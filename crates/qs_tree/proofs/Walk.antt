@@ -6,7 +6,8 @@ use Rattle.qs_tree.specs.declared.borrowed.ForestRef.{ForestRef}
 use Rattle.std.proofs.lemmas.List.{map-append}
 use Rattle.qs_tree.specs.declared.cell.Label.{Label}
 use Rattle.qs_tree.specs.declared.cell.Cell.{Cell}
-use Rattle.qs_tree.specs.Trees.{Forest, no_tree, first_tree, Tree, trees, size, forest, forest-trees}
+use Rattle.qs_tree.specs.Trees.{Forest, no_tree, first_tree, Tree, trees, size, forest}
+use Rattle.qs_tree.specs.working.Trees.{forest-trees}
 use Rattle.qs_tree.specs.Cells.{tree_of, forest_in, trees_of}
 use Rattle.qs_tree.specs.Text.{label_text, name_of, in_parentheses, behind_comma, forest_text, tree_text, AreNamed, IsNamed}
 

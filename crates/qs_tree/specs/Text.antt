@@ -2,7 +2,8 @@
 -- label characters, and else between quotes, as `"a""b"` and `""`. A tree is its label and, where it has subtrees, a
 -- list of them in parentheses with a comma between two, as `S(NP,VP(V))`. The trees are those of Colmerauer (1970);
 -- which characters a bare label may have, and the quotes, are this project's own.
-use Rattle.std.specs.Prelude.{ℕ, Bool, ◌==◌, ◌||◌, ◌&&◌, if◌then◌else◌, nat_le, nat_lt, length, ◌<◌, List, [], ◌∷◌, ◌++◌, slice_get, unwrap_or}
+use Rattle.std.specs.Prelude.{ℕ, Bool, ◌==◌, ◌||◌, ◌&&◌, if◌then◌else◌, nat_le, nat_lt, length, ◌<◌, List, [], ◌∷◌}
+use Rattle.std.specs.Prelude.{◌++◌, slice_get, unwrap_or}
 use Rattle.std.specs.Char.{is_ascii_alphanumeric}
 use Rattle.std.specs.List.{list_all, flat_map}
 use Rattle.qs_tree.specs.declared.cell.Label.{Label}

@@ -1,7 +1,7 @@
 -- A tree is a label and a list of trees (Colmerauer 1970). A data type of this language cannot hold a `List` of itself,
 -- so a list of trees is stored as a `Forest`, and `kids` and `node` give and take it as a `List`.
-use Rattle.std.specs.Prelude.{◌≡◌, ℕ, ◌+◌, List, [], ◌∷◌, refl}
-use Rattle.std.proofs.Common.{ap, suc}
+use Rattle.std.specs.Prelude.{ℕ, ◌+◌, List, [], ◌∷◌}
+use Rattle.std.proofs.Common.{suc}
 use Rattle.qs_tree.specs.declared.cell.Label.{Label}
 
 -- a list of trees: no tree; or a first tree, by its label and its subtrees, and the trees behind it
@@ -24,15 +24,6 @@ abbrev pub forest : List Tree → Forest
 forest [] = no_tree
 forest (t ∷ ts) = first_tree t.root t.subtrees (forest ts)
 
--- the two are inverse to each other
-pub forest-trees : (g : Forest) → forest (trees g) ≡ g
-forest-trees no_tree = refl
-forest-trees (first_tree l k r) = ap (λ g. first_tree l k g) (forest-trees r)
-
-pub trees-forest : (ts : List Tree) → trees (forest ts) ≡ ts
-trees-forest [] = refl
-trees-forest (t ∷ ts) = ap (λ us. t ∷ us) (trees-forest ts)
-
 -- the subtrees of a tree, from left to right
 abbrev pub kids : Tree → List Tree
 kids t = trees t.subtrees
@@ -45,8 +36,3 @@ node l ts = record { root = l; subtrees = forest ts }
 abbrev pub size : Forest → ℕ
 size no_tree = 0
 size (first_tree l k r) = suc (size k + size r)
-
--- the trees of two lists, one list behind the other
-abbrev pub join : Forest → Forest → Forest
-join no_tree h = h
-join (first_tree l k r) h = first_tree l k (join r h)

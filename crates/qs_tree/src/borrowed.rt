@@ -37,13 +37,21 @@ impl<'a> TreeRef<'a> {
             cells: &self.cells[1..],
         }
     }
+
+    /// The list of this tree alone, over the same cells. Takes no memory.
+    pub fn alone(self) -> ForestRef<'a>
+        ensures { trees_of result.cells.now ≡ tree_of self.entry.cells.now ∷ [] }
+    {
+        ForestRef { cells: self.cells }
+    }
 }
 
 impl<'a> ForestRef<'a> {
     /// The first tree and the list of the others; None exactly where the list is empty.
     pub fn first_rest(self) -> Option<(TreeRef<'a>, ForestRef<'a>)>
         ensures none { IsNone result ↔ (trees_of self.entry.cells.now ≡ []) }
-        ensures some { IfSome result (λ p. trees_of self.entry.cells.now ≡ tree_of p.0.cells.now ∷ trees_of p.1.cells.now) }
+        ensures some { IfSome result (λ p. trees_of self.entry.cells.now
+            ≡ tree_of p.0.cells.now ∷ trees_of p.1.cells.now) }
     {
         let first = self.cells.first()?;
         let (tree, rest) = self.cells.split_at(first.extent);

@@ -9,7 +9,8 @@ ghost use Rattle.qs_tree.specs.declared.cell.Label.{Label};
 
 /// Law: among distinct texts, two labels are equal exactly where their texts are.
 pub fn equal_labels_have_equal_texts()
-    ensures { (names : List (List ℕ)) (a b : Label) → AreDistinct names → a.0 < length names → b.0 < length names → (a ≡ b) ↔ (name_of names a ≡ name_of names b) }
+    ensures { (names : List (List ℕ)) (a b : Label) → AreDistinct names → a.0 < length names → b.0 < length names
+        → (a ≡ b) ↔ (name_of names a ≡ name_of names b) }
 {}
 
 /// Law: a `Forest` of the definitions is a list of trees in another form.
@@ -35,10 +36,11 @@ pub fn texts_of_labels()
     ensures quote { label_text (97 ∷ 34 ∷ 98 ∷ []) ≡ 34 ∷ 97 ∷ 34 ∷ 34 ∷ 98 ∷ 34 ∷ [] }
 {}
 
-/// Example: over the texts `S`, `NP`, `VP` and `V`, the tree of S with the subtrees NP and VP, of which the second has the
-/// subtree V, is written `S(NP,VP(V))`.
+/// Example: over the texts `S`, `NP`, `VP` and `V`, the tree of S with the subtrees NP and VP, of which the second has
+/// the subtree V, is written `S(NP,VP(V))`.
 pub fn text_of_a_tree()
     ensures { let names = codes "S" ∷ codes "NP" ∷ codes "VP" ∷ codes "V" ∷ [] in
         let label : ℕ → Label = λ n. record { 0 = n } in
-        tree_text names (node (label 0) (node (label 1) [] ∷ node (label 2) (node (label 3) [] ∷ []) ∷ [])) ≡ codes "S(NP,VP(V))" }
+        tree_text names (node (label 0) (node (label 1) [] ∷ node (label 2) (node (label 3) [] ∷ []) ∷ []))
+        ≡ codes "S(NP,VP(V))" }
 {}

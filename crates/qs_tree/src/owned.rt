@@ -19,7 +19,8 @@ pub struct Tree {
 
 impl Model for Tree {
     ghost use Rattle.qs_tree.specs.Trees.{Tree as LabelledTree};
-    ghost use Rattle.qs_tree.specs.Cells.{tree_of, IsTree, tree_code};
+    ghost use Rattle.qs_tree.specs.Cells.{tree_of, IsTree};
+    ghost use Rattle.qs_tree.specs.working.Cells.{tree_code};
 
     ghost Value = { LabelledTree };
 
@@ -87,7 +88,8 @@ impl Model for Forest {
     ghost use Rattle.std.specs.Prelude.{List};
     ghost use Rattle.std.specs.Coded.{coded_list};
     ghost use Rattle.qs_tree.specs.Trees.{Tree as LabelledTree};
-    ghost use Rattle.qs_tree.specs.Cells.{trees_of, IsForest, tree_code};
+    ghost use Rattle.qs_tree.specs.Cells.{trees_of, IsForest};
+    ghost use Rattle.qs_tree.specs.working.Cells.{tree_code};
 
     ghost Value = { List LabelledTree };
 

@@ -52,7 +52,8 @@ impl<'a> Split<'a> {
     /// The same list, split behind one more tree; None exactly where no tree is behind the place. Takes no memory.
     pub fn next(self) -> Option<Split<'a>>
         ensures none { IsNone result ↔ (behind_of self.entry ≡ []) }
-        ensures some { IfSome result (λ next. PassesTree (front_of self.entry) (behind_of self.entry) (front_of next) (behind_of next)) }
+        ensures some { IfSome result
+            (λ next. PassesTree (front_of self.entry) (behind_of self.entry) (front_of next) (behind_of next)) }
     {
         let _most = self.cells.len();
         let first = self.cells[self.place..].first()?;

@@ -11,7 +11,8 @@ use Rattle.qs_turn.specs.declared.protocol.Stage.TheVariants.{Idle}
 use Rattle.qs_turn.specs.declared.protocol.SeatView.{SeatView}
 use Rattle.qs_turn.specs.declared.turns.Pass.{Pass}
 use Rattle.qs_turn.specs.History.{ContinuedByOthers}
-use Rattle.qs_turn.specs.Protocol.{AreRight, TurnRule, first_base, first_seen, first_number}
+use Rattle.qs_turn.specs.Protocol.{first_base, first_seen, first_number}
+use Rattle.qs_turn.specs.working.Protocol.{AreRight, TurnRule}
 use Rattle.qs_turn.specs.Passes.{KnowsBase, number_of, seen_of}
 use Rattle.qs_turn.proofs.Keeps.{close_finds}
 

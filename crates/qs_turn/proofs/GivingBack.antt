@@ -4,7 +4,8 @@ use Rattle.std.specs.Prelude.{MatchBool, Option, Some, None}
 use Rattle.atomic_table.specs.Table.{Me, rest}
 use Rattle.qs_turn.specs.declared.protocol.PassView.{PassView}
 use Rattle.qs_turn.specs.declared.protocol.SeatView.{SeatView}
-use Rattle.qs_turn.specs.Protocol.{seat_view, having_seen, first_base, first_seen, SeesSlot}
+use Rattle.qs_turn.specs.Protocol.{first_base, first_seen}
+use Rattle.qs_turn.specs.working.Protocol.{seat_view, having_seen, SeesSlot}
 
 pub first_of : {S : Type 0} (l m : List (ℕ × S)) (x : ℕ × S) → l ≡ x ∷ m → l ≡ x ∷ rest l
 first_of l m x e = e ∙ ap (λ (z : List _). x ∷ rest z) (sym e)

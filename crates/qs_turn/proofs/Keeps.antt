@@ -16,7 +16,8 @@ use Rattle.qs_turn.specs.declared.protocol.Stage.{Stage}
 use Rattle.qs_turn.specs.declared.protocol.Stage.TheVariants.{Idle, Waiting, Served}
 use Rattle.qs_turn.specs.declared.protocol.SeatView.{SeatView}
 use Rattle.qs_turn.specs.History.{IsOtherPass, ContinuedByOthers}
-use Rattle.qs_turn.specs.Protocol.{tickets_of, HasTicket, seat_view, pass_view, new_views, opening_view, no_pass, without_first, only_first, later_passes, first_pass, together, first_number, first_base, first_seen, tickets_out, passes_in, count_number, times_in, total, AreRight, IsHome, IsOut, StageFits, IsPlaced, TurnRule, Draws, Takes, Looks, Enters, Serves}
+use Rattle.qs_turn.specs.Protocol.{first_number, first_base, first_seen}
+use Rattle.qs_turn.specs.working.Protocol.{tickets_of, HasTicket, seat_view, pass_view, new_views, opening_view, no_pass, without_first, only_first, later_passes, first_pass, together, tickets_out, passes_in, count_number, times_in, total, AreRight, IsHome, IsOut, StageFits, IsPlaced, TurnRule, Draws, Takes, Looks, Enters, Serves}
 use Rattle.qs_turn.proofs.Totals.{total_set, total_snoc, total_two, total_le, counted_append, counted_parts, length_parts, counted_new, length_new, not_among, counted_itself}
 
 pub set_at : {A : Type 0} (l : List A) (i : ℕ) (v w : A) → get_elem? l i ≡ some v → get_elem? (set l i w) i ≡ some w

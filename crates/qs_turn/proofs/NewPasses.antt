@@ -5,7 +5,8 @@ use Rattle.qs_turn.specs.declared.told.Told.{Ghosts}
 use Rattle.qs_turn.specs.declared.protocol.PassView.{PassView}
 use Rattle.qs_turn.specs.declared.turns.Pass.{Pass}
 use Rattle.qs_turn.specs.declared.turns.Turns.{Turns}
-use Rattle.qs_turn.specs.Protocol.{new_views, pass_view, only_first, first_base, first_seen, first_turns}
+use Rattle.qs_turn.specs.Protocol.{first_base, first_seen, first_turns}
+use Rattle.qs_turn.specs.working.Protocol.{new_views, pass_view, only_first}
 use Rattle.qs_turn.specs.Passes.{IsPassOf, HoldsNoTurn, IsNewPass, AreNewPasses}
 
 pub new_views-next : {S E : Type 0} (x : S) (h : List E) (m n p : ℕ) → n < p → new_views m x h n (p - n) ≡ pass_view n m x h 0 ∷ new_views m x h (n + 1) (p - (n + 1))

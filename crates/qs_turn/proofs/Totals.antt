@@ -5,7 +5,7 @@ use mathlib.Core.Logic.{dite}
 use native.Mathlib.Decide.{ℕ_discrete}
 use lib.ListN.{get_elem?}
 use Rattle.qs_turn.specs.declared.protocol.PassView.{PassView}
-use Rattle.qs_turn.specs.Protocol.{total, count_number, one_if_same, new_views, without_first, only_first}
+use Rattle.qs_turn.specs.working.Protocol.{total, count_number, one_if_same, new_views, without_first, only_first}
 
 module _ {V : Type 0} (f : V → ℕ) where
   pub total_set : (l : List V) (i : ℕ) (v w : V) → get_elem? l i ≡ some v → total f (set l i w) + f v ≡ total f l + f w

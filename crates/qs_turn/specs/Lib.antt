@@ -3,3 +3,4 @@ pub mod Protocol
 pub mod Seats
 pub mod Passes
 pub mod Lending
+pub mod working

@@ -47,8 +47,10 @@ module _ {T E : Type 0} {g : Ghosts T E} where
   abbrev pub IsSamePass : {C : Type 0} → (T → C) → Pass T E g → Pass T E g → Type 0
   IsSamePass base old new = (number_of new ≡ number_of old) × (base_of base new ≡ base_of base old)
 
-  -- A pass of these turns that has taken no turn yet: its number, the base that it knows, and the history that it has seen.
-  pub record IsNewPass {C : Type 0} (base : T → C) (t : Turns T E) (b : C) (history : List E) (n : ℕ) (p : Pass T E g) : Type 0 where
+  -- A pass of these turns that has taken no turn yet: its number, the base that it knows, and the history that it has
+  -- seen.
+  pub record IsNewPass {C : Type 0} (base : T → C) (t : Turns T E) (b : C) (history : List E) (n : ℕ)
+      (p : Pass T E g) : Type 0 where
     pub own : IsPassOf t p
     pub idle : HoldsNoTurn p
     pub number : number_of p ≡ n

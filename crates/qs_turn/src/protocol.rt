@@ -51,9 +51,10 @@ pub struct TicketRule<T> {
 }
 
 impl<T: Told> TableRule<Option<T>, SeatView<T, T::Entry>, Opening<T>> for TicketRule<T> {
-    ghost use Rattle.qs_turn.specs.Protocol.{TurnRule, opening_view};
+    ghost use Rattle.qs_turn.specs.working.Protocol.{TurnRule, opening_view};
 
-    ghost holds = { λ k. TurnRule T.base T.history T.pass_of (T.base k.value.value) (T.history k.value.value) k.passes };
+    ghost holds = { λ k. TurnRule T.base T.history T.pass_of (T.base k.value.value)
+        (T.history k.value.value) k.passes };
 
     ghost first = { λ k. opening_view k.value.value (T.history k.value.value) k.passes };
 }
@@ -61,7 +62,7 @@ impl<T: Told> TableRule<Option<T>, SeatView<T, T::Entry>, Opening<T>> for Ticket
 pub struct Draw;
 
 impl<T, E> Play<Option<T>, SeatView<T, E>> for Draw {
-    ghost use Rattle.qs_turn.specs.Protocol.{Draws};
+    ghost use Rattle.qs_turn.specs.working.Protocol.{Draws};
 
     ghost then = { Draws };
 }
@@ -71,7 +72,7 @@ pub struct Look<T> {
 }
 
 impl<T: Told> Play<Option<T>, SeatView<T, T::Entry>> for Look<T> {
-    ghost use Rattle.qs_turn.specs.Protocol.{Looks};
+    ghost use Rattle.qs_turn.specs.working.Protocol.{Looks};
 
     ghost then = { Looks T.base T.history T.pass_of };
 }
@@ -81,7 +82,7 @@ pub struct Enter<T> {
 }
 
 impl<T: Told> Play<Option<T>, SeatView<T, T::Entry>> for Enter<T> {
-    ghost use Rattle.qs_turn.specs.Protocol.{Enters};
+    ghost use Rattle.qs_turn.specs.working.Protocol.{Enters};
 
     ghost then = { Enters T.history };
 }
@@ -89,7 +90,7 @@ impl<T: Told> Play<Option<T>, SeatView<T, T::Entry>> for Enter<T> {
 pub struct Serve;
 
 impl<T, E> Play<Option<T>, SeatView<T, E>> for Serve {
-    ghost use Rattle.qs_turn.specs.Protocol.{Serves};
+    ghost use Rattle.qs_turn.specs.working.Protocol.{Serves};
 
     ghost then = { Serves };
 }
@@ -98,7 +99,7 @@ impl<T, E> Play<Option<T>, SeatView<T, E>> for Serve {
 pub struct SplitFirst;
 
 impl<T, E> Split<SeatView<T, E>> for SplitFirst {
-    ghost use Rattle.qs_turn.specs.Protocol.{later_passes, first_pass};
+    ghost use Rattle.qs_turn.specs.working.Protocol.{later_passes, first_pass};
 
     ghost left = { later_passes };
 
@@ -109,7 +110,7 @@ impl<T, E> Split<SeatView<T, E>> for SplitFirst {
 pub struct JoinPasses;
 
 impl<T, E> Join<SeatView<T, E>> for JoinPasses {
-    ghost use Rattle.qs_turn.specs.Protocol.{together, no_pass};
+    ghost use Rattle.qs_turn.specs.working.Protocol.{together, no_pass};
 
     ghost both = { together };
 

@@ -1,6 +1,7 @@
 ghost use Rattle.std.specs.Prelude.{ℕ, List};
 
-/// A value that stands for a history, which is a list of entries. It has no methods: the three meanings below are for contracts alone.
+/// A value that stands for a history, which is a list of entries. It has no methods:
+/// the three meanings below are for contracts alone.
 ///
 /// An entry is entered by the pass that it names.
 pub trait Told {

@@ -1,5 +1,6 @@
 //! The value behind its turns, the passes that take them, and the value while it is held.
-ghost use Rattle.std.specs.Prelude.{◌≡◌, ◌<◌, ◌≤◌, ◌+◌, ◌-◌, ◌^◌, [], length, IfSome, IfNone, IfOk, All, vec_len, vec_capacity};
+ghost use Rattle.std.specs.Prelude.{◌≡◌, ◌<◌, ◌≤◌, ◌+◌, ◌-◌, ◌^◌, [], length, IfSome, IfNone, IfOk, All, vec_len};
+ghost use Rattle.std.specs.Prelude.{vec_capacity};
 ghost use Rattle.qs_turn.specs.Protocol.{first_number};
 
 use crate::Memory;
@@ -60,11 +61,15 @@ impl<T: Told> Model for Held<T> {
 }
 
 impl<T: Told> Turns<T> {
-    ghost use Rattle.qs_turn.specs.Protocol.{seat_view, opening_view, having_seen, without_first, only_first, first_pass_count, first_base, first_seen, SeesSlot};
+    ghost use Rattle.qs_turn.specs.Protocol.{first_pass_count, first_base, first_seen};
+    ghost use Rattle.qs_turn.specs.working.Protocol.{seat_view, opening_view, having_seen, without_first, only_first};
+    ghost use Rattle.qs_turn.specs.working.Protocol.{SeesSlot};
     ghost use Rattle.qs_turn.specs.declared.protocol.Stage.TheVariants.{Idle};
     ghost use Rattle.qs_turn.specs.History.{ContinuedByOthers, followed_by};
-    ghost use Rattle.qs_turn.specs.Seats.{IsSameSeat, IsIdle, IsWaiting, IsServed, HasTaken, IsGivingBack};
-    ghost use Rattle.qs_turn.specs.Passes.{passes_of, IsPassOf, IsSamePass, HoldsNoTurn, HoldsTurn, KnowsBase, number_of, seen_of, turns_of, AreNewPasses};
+    ghost use Rattle.qs_turn.specs.Seats.{IsIdle, IsServed};
+    ghost use Rattle.qs_turn.specs.working.Seats.{IsSameSeat, IsWaiting, HasTaken, IsGivingBack};
+    ghost use Rattle.qs_turn.specs.Passes.{passes_of, IsPassOf, IsSamePass, HoldsNoTurn, HoldsTurn, KnowsBase};
+    ghost use Rattle.qs_turn.specs.Passes.{number_of, seen_of, turns_of, AreNewPasses};
 
     /// The turns on a value, and their passes, as many as `passes` says. These are numbered from 0 in order, know the
     /// value's base, have seen the value's history, have taken no turn and hold none.
@@ -106,11 +111,13 @@ impl<T: Told> Turns<T> {
         dealt: &mut Vec<Pass<T>>,
     )
         requires own { (seat.table_id ≡ self.now.table.shared.table_id) × (passes ≡ passes_of self.now) }
-        requires seat { seat.me ≡ (opening_view self.now.table.shared.key.value.value (T.history self.now.table.shared.key.value.value) passes, []) }
+        requires seat { let opened = self.now.table.shared.key.value.value in
+            seat.me ≡ (opening_view opened (T.history opened) passes, []) }
         requires room { (dealt.old.items ≡ []) × (passes ≤ vec_capacity dealt.old) }
         ensures count { vec_len dealt.new ≡ passes }
         ensures own { All (λ p. IsPassOf self.now p × HoldsNoTurn p) dealt.new.items }
-        ensures each { AreNewPasses T.base self.now (T.base self.now.table.shared.key.value.value) (T.history self.now.table.shared.key.value.value) dealt.new.items }
+        ensures each { let opened = self.now.table.shared.key.value.value in
+            AreNewPasses T.base self.now (T.base opened) (T.history opened) dealt.new.items }
     {
         for number in 0..passes {
             let pass = self.split_first(&mut seat, number);
@@ -122,7 +129,8 @@ impl<T: Told> Turns<T> {
     fn split_first(&self, seat: &mut Seat<Option<T>, SeatView<T, T::Entry>>, number: u32) -> Pass<T>
         requires own { seat.old.table_id ≡ self.now.table.shared.table_id }
         requires idle { IsIdle seat.old }
-        requires first { (0 < length seat.old.me.0.known) × (first_number seat.old.me.0.known ≡ number) × (first_pass_count seat.old.me.0.known ≡ passes_of self.now) }
+        requires first { (0 < length seat.old.me.0.known) × (first_number seat.old.me.0.known ≡ number)
+            × (first_pass_count seat.old.me.0.known ≡ passes_of self.now) }
         ensures own { IsSameSeat seat.old seat.new }
         ensures others { seat.new.me ≡ (seat_view (without_first seat.old.me.0.known) Idle, []) }
         ensures pass { (result.number ≡ number) × IsPassOf self.now result × HoldsNoTurn result }
@@ -134,8 +142,8 @@ impl<T: Told> Turns<T> {
         }
     }
 
-    /// Draws a ticket, waits until it is served, and hands out the value. It may wait, also forever: each turn lasts until
-    /// its `leave`, and no contract says that a ticket is ever served.
+    /// Draws a ticket, waits until it is served, and hands out the value. It may wait, also forever: each turn lasts
+    /// until its `leave`, and no contract says that a ticket is ever served.
     ///
     /// The value has the base that the pass knows. The pass has then seen the whole history that the value stands for;
     /// what is new in it was entered by other passes.
@@ -148,7 +156,8 @@ impl<T: Told> Turns<T> {
         ensures turns { turns_of pass.new ≡ turns_of pass.old + 1 }
         ensures base { KnowsBase T.base pass.new (T.base result) }
         ensures history { T.history result ≡ seen_of pass.new }
-        ensures others { ContinuedByOthers T.pass_of (passes_of self.now) (number_of pass.old) (seen_of pass.old) (seen_of pass.new) }
+        ensures others { ContinuedByOthers T.pass_of (passes_of self.now) (number_of pass.old) (seen_of pass.old)
+            (seen_of pass.new) }
     {
         let ticket = self.draw(&mut pass.seat);
         for _ in rt.forever() {
@@ -259,7 +268,8 @@ impl<T: Told> Turns<T> {
         requires own { All (λ p. IsPassOf self p × HoldsNoTurn p) passes.items }
         requires all { vec_len passes ≡ passes_of self }
         ensures base { All (λ p. KnowsBase T.base p (T.base result)) passes.items }
-        ensures history { All (λ p. ContinuedByOthers T.pass_of (passes_of self) (number_of p) (seen_of p) (T.history result)) passes.items }
+        ensures history { All (λ p. ContinuedByOthers T.pass_of (passes_of self) (number_of p) (seen_of p)
+            (T.history result)) passes.items }
     {
         let Turns { table } = self;
         let Some(last) = passes.pop() else {

@@ -1,12 +1,11 @@
 -- What is asked of a cascade that is run in two pieces: that its second part can be written, and that decks have it.
-use Rattle.std.proofs.Common.{◌≡◌, ℕ, List, ◌++◌, length, Option, Some, None, refl, subst}
+use Rattle.std.proofs.Common.{ℕ, List, ◌++◌, length, Option, Some, None}
 use Rattle.qs_tree.specs.Lists.{◌∈◌}
 use Rattle.qs_tree.proofs.Members.{in_append_right}
 use Rattle.qs_pattern.specs.Conditions.{Condition}
-use Rattle.qs_pattern.specs.Rules.{Rule, IsInClassIfGiven, HasEnoughMembersIfGiven, IsAccepted}
+use Rattle.qs_pattern.specs.Rules.{Rule, IsInClassIfGiven, HasEnoughMembersIfGiven, unmarked, IsAccepted}
 use Rattle.qs_pattern.specs.Named.{IsNamedIfGiven}
 use Rattle.qs_ruletext.specs.Rules.{IsWellRead, IsWellReadIfGiven}
-use Rattle.qs_ruletext.specs.Written.{HasFullLists}
 use Rattle.qs_graph.specs.Graphs.{QGraph}
 use Rattle.qs_deck.specs.Decks.{Grammar, IsDeckOf}
 use Rattle.qs_deck.specs.Named.{IsRuleNamed}
@@ -14,38 +13,38 @@ use Rattle.qs_deck.proofs.DecksReadBack.{IsWritableGrammar}
 use Rattle.qs_deck.proofs.WritableDecks.{names_of_deck, writable_deck}
 use Rattle.qs_deck.proofs.DecksAccepted.{deck_accepted}
 use Rattle.qsys.specs.Pieces.{CanBeCut}
+use Rattle.qsys.proofs.PassingRules.{HasFullListsIfGiven}
+use Rattle.qsys.proofs.PassingDecks.{HaveFull}
 
 -- a condition that compares no empty list, in class and with named labels, is as those that were read
-given_read : (n : ℕ) (o : Option Condition) → IsInClassIfGiven o → HasEnoughMembersIfGiven o → IsNamedIfGiven n o → ((c : Condition) → o ≡ Some c → HasFullLists c) → IsWellReadIfGiven n o
+given_read : (n : ℕ) (o : Option Condition) → IsInClassIfGiven o → HasEnoughMembersIfGiven o → IsNamedIfGiven n o → HasFullListsIfGiven o → IsWellReadIfGiven n o
 given_read n None in_class enough named full = tt
-given_read n (Some c) in_class enough named full = record { in_class = in_class; enough = enough; lists = full c refl; named = named }
+given_read n (Some c) in_class enough named full = record { in_class = in_class; enough = enough; lists = full; named = named }
 
 -- and so is a rule
-rule_read : (n : ℕ) (rule : Rule) → IsAccepted rule → IsRuleNamed n rule → ((c : Condition) → rule.condition ≡ Some c → HasFullLists c) → IsWellRead n rule
+rule_read : (n : ℕ) (rule : Rule) → IsAccepted rule → IsRuleNamed n rule → HasFullListsIfGiven rule.condition → IsWellRead n (unmarked rule)
 rule_read n rule ok named full = record {
   left = record { some = ok.left.some; no_forest_at_top = ok.left.no_forest_at_top; in_class = ok.left.in_class; named = named.left };
   right = record { some = ok.right.some; no_forest_at_top = ok.right.no_forest_at_top; in_class = ok.right.in_class; named = named.right };
   condition = given_read n rule.condition ok.condition ok.members named.condition full;
 }
 
--- so the second part can be written
-pub back_writable : {names : List (List ℕ)} {graph : QGraph} {front back : List Grammar} → CanBeCut names graph front back → (grammar : Grammar) → grammar ∈ back → IsWritableGrammar (length names) grammar
-back_writable {front = front} {back = back} can grammar i =
+-- so the second part can be written, where no condition in it compares an empty list
+pub back_writable : {names : List (List ℕ)} {graph : QGraph} {front back : List Grammar} → CanBeCut names graph front back
+    → ((grammar : Grammar) → grammar ∈ back → HaveFull grammar.rules) → (grammar : Grammar) → grammar ∈ back → IsWritableGrammar (length names) grammar
+back_writable {front = front} {back = back} can full grammar i =
     let j = in_append_right front back grammar i in
     let named = can.named grammar j in
     record {
       name = named.0;
-      rules = λ rule k. rule_read _ rule (can.accepted grammar j rule k) (named.1 rule k) (can.full grammar i rule k);
+      rules = λ rule k. rule_read _ rule (can.accepted grammar j rule k) (named.1 rule k) (full grammar i rule k);
+      without_mark = can.without_marks grammar i;
     }
 
--- a condition that was read has named labels and compares no empty list
+-- a condition that was read has named labels
 given_named : (n : ℕ) (o : Option Condition) → IsWellReadIfGiven n o → IsNamedIfGiven n o
 given_named n None known = tt
 given_named n (Some c) known = known.named
-
-given_full : (n : ℕ) (o : Option Condition) → IsWellReadIfGiven n o → (c : Condition) → o ≡ Some c → HasFullLists c
-given_full n None known c e = absurd cc
-given_full n (Some d) known c e = let same : d ≡ c = cc in subst HasFullLists same known.lists
 
 -- the names, the grammars and the graph of a deck
 pub cut_deck : {text : List ℕ} {names : List (List ℕ)} {graph : QGraph} {front back : List Grammar} → IsDeckOf text names (front ++ back) graph → CanBeCut names graph front back
@@ -55,7 +54,6 @@ cut_deck {names = names} {front = front} {back = back} deck =
     let each : (grammar : Grammar) → grammar ∈ (front ++ back) → IsWritableGrammar (length names) grammar = can.1 in
     record {
       names_differ = known.1;
-      names_on_one_line = known.0;
       accepted = deck_accepted deck;
       named = λ grammar i. (
         (each grammar i).name,
@@ -63,7 +61,7 @@ cut_deck {names = names} {front = front} {back = back} deck =
             let read = (each grammar i).rules rule j in
             record { left = read.left.named; right = read.right.named; condition = given_named (length names) rule.condition read.condition },
       );
-      full = λ grammar i rule j. given_full (length names) rule.condition ((each grammar (in_append_right front back grammar i)).rules rule j).condition;
+      without_marks = λ grammar i. (each grammar (in_append_right front back grammar i)).without_mark;
       valid = can.2;
       arcs_named = can.4;
     }

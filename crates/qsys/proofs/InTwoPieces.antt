@@ -1,16 +1,16 @@
 -- A cascade of two parts may be run in two pieces: what is printed between them, behind the second part, is read under names of
 -- its own, and labels are numbers alone.
-use Rattle.std.proofs.Common.{◌≡◌, ℕ, ◌≤◌, ◌<◌, List, [], ◌∷◌, ◌++◌, length, map, Contains, refl, sym, ap, ◌∙◌, subst, ⊎_elim, arith}
+use Rattle.std.proofs.Common.{◌≡◌, ℕ, suc, ◌+◌, ◌≤◌, ◌<◌, List, [], ◌∷◌, ◌++◌, length, map, Contains, refl, sym, ap, ◌∙◌, subst, ⊎_elim, arith}
 use Rattle.qs_lex.specs.declared.token.Token.{Token}
 use Rattle.qs_lex.specs.declared.token.Word.TheVariants.{Graphe}
-use Rattle.qs_lex.specs.Grammar.{the_word}
+use Rattle.qs_lex.specs.Grammar.{the_word, stop}
 use Rattle.qs_lex.specs.Tokens.{AreTokensOf}
 use Rattle.qs_lex.proofs.Readings.{one_list}
 use Rattle.qs_tree.specs.declared.cell.Label.{Label}
 use Rattle.qs_tree.specs.Lists.{◌∈◌}
 use Rattle.qs_tree.specs.Names.{AreDistinct}
 use Rattle.qs_tree.specs.Text.{name_of}
-use Rattle.qs_tree.proofs.Members.{in_append_left}
+use Rattle.qs_tree.proofs.Members.{in_append_left, in_append_right}
 use Rattle.qs_pattern.specs.Rules.{Rule}
 use Rattle.qs_ruletext.specs.Names.{NamesGrow}
 use Rattle.qs_ruletext.specs.Written.{AreOnOneLine}
@@ -35,7 +35,9 @@ use Rattle.qs_deck.proofs.DecksAccepted.{deck_accepted, deck_texts}
 use Rattle.qsys.specs.Outcomes.{blocks, IsOutcome}
 use Rattle.qsys.specs.Cascading.{AreAccepted}
 use Rattle.qsys.specs.Pieces.{TwoPieces}
-use Rattle.qsys.proofs.MarksRead.{nodes_fit}
+use Rattle.qsys.proofs.Neighbours.{deck_chain}
+use Rattle.qsys.proofs.PassingDecks.{deck_passed}
+use Rattle.qsys.proofs.OneLineNames.{total, one_line_names, as_many, are_on_one_line, keeps_lines, still_distinct, carries_back}
 use Rattle.qsys.proofs.Cutting.{back_writable}
 use Rattle.qsys.proofs.GoingOn.{all_accepted}
 use Rattle.qsys.proofs.RenamedGrammars.{Carries, renamed_grammar}
@@ -61,7 +63,7 @@ rules_of_renamed : (g : ℕ → ℕ) (grammars : List Grammar)
 rules_of_renamed g [] = refl
 rules_of_renamed g (grammar ∷ grammars) = ap (λ (rs : List (List Rule)). map (renamed_rule g) grammar.rules ∷ rs) (rules_of_renamed g grammars)
 
--- grammars of an accepted text, and a graph that is left, which is printed behind the second part of them and read again
+-- grammars and a graph that are printed under these names, none of which has the end of a line, and are read again
 module _ (limit : ℕ) (names others : List (List ℕ)) (Q more : List Grammar) (H K : QGraph)
     (line : AreOnOneLine names) (distinct : AreDistinct names) (writable : (grammar : Grammar) → grammar ∈ Q → IsWritableGrammar (length names) grammar)
     (valid : IsValid H) (small : H.nodes ≤ 999999999) (named : AreArcsNamed (length names) H.arcs)
@@ -105,9 +107,11 @@ module _ (limit : ℕ) (names others : List (List ℕ)) (Q more : List Grammar) 
     graph_is =
         sym back.2.graph_is ∙ ap (λ (d : WrittenDeck). graph_of d.chains) same_deck ∙ chains_renamed g printed.written.chains ∙ ap (renamed_graph g) (sym printed.graph_is)
 
-    -- the cascade of what was read does what the cascade of what was printed does, and writes the same
-    outcome : (f : ℕ → ℕ) → IsRenaming f g → (second : List ℕ) (ending : Ending) → IsOutcome limit others K more second ending → IsOutcome limit names H Q second ending
-    outcome f is second ending o =
+    -- the cascade of what was read does what the cascade of what was printed does, and writes the same under all names that hold
+    -- the texts
+    outcome : (f : ℕ → ℕ) → IsRenaming f g → (texts : List (List ℕ)) → Carries g others texts → (second : List ℕ) (ending : Ending)
+        → IsOutcome limit others K more second ending → IsOutcome limit texts H Q second ending
+    outcome f is texts carries_too second ending o =
         let can = writable_deck printed in
         let accepted : AreAccepted more = deck_accepted printed in
         let lefts : List Left = map (renamed_left g) o.lefts in
@@ -120,8 +124,8 @@ module _ (limit : ℕ) (names others : List (List ℕ)) (Q more : List Grammar) 
               subst (λ (G : QGraph). Cascade limit G (map (λ (grammar : Grammar). grammar.rules) Q) lefts ending) (sym graph_is)
               (subst (λ (Rs : List (List Rule)). Cascade limit (renamed_graph g K) Rs lefts ending) rules cascade);
           text_is =
-              o.text_is ∙ sym (blocks_under g others names carries limit more o.lefts (λ grammar i. (can.1 grammar i).name) each)
-              ∙ ap (λ (gs : List Grammar). blocks limit names gs lefts) (sym grammars_are);
+              o.text_is ∙ sym (blocks_under g others texts carries_too limit more o.lefts (λ grammar i. (can.1 grammar i).name) each)
+              ∙ ap (λ (gs : List Grammar). blocks limit texts gs lefts) (sym grammars_are);
         }
 
 -- the cascade of both parts is that of the first, and behind it that of what was printed
@@ -131,12 +135,25 @@ in_two_pieces p =
     let n : ℕ = length p.names in
     let accepted : AreAccepted p.front = λ grammar i. can.accepted grammar (in_append_left p.front p.back grammar i) in
     let rights = λ (grammar : Grammar) (i : grammar ∈ p.front) (rule : Rule) (j : rule ∈ grammar.rules). ((can.named grammar (in_append_left p.front p.back grammar i)).1 rule j).right in
-    let writable = back_writable can in
     let valid : IsValid p.left = left_valid p.limit p.names p.graph p.left p.front p.first accepted p.leaves can.valid in
     let named : AreArcsNamed n p.left.arcs = left_named p.limit p.names p.graph p.left p.front p.first accepted p.leaves n rights can.arcs_named in
     let w = p.accepted.is_written in
-    let small : p.left.nodes ≤ 999999999 = nodes_fit p.names can.names_on_one_line p.back writable p.left valid named w.tokens w.has_tokens.are_tokens in
-    let contained = among p.limit p.names p.others p.back p.more p.left p.read can.names_on_one_line can.names_differ writable valid small named p.accepted in
-    let (f, g, is, carries) = renaming p.others p.names (names_of_deck p.accepted).1 contained in
+    let big : ℕ = suc (total p.names + total p.others) in
+    let lined : List (List ℕ) = one_line_names big p.names in
+    let passed =
+    deck_passed p.names lined (keeps_lines big p.names) p.back (λ grammar i. can.accepted grammar (in_append_right p.front p.back grammar i)) p.left valid w.tokens w.has_tokens.are_tokens
+    ((deck_chain p.others (deck_text p.names p.back p.left) w.reads).chain stop refl)
+    in
+    let many : n ≡ length lined = sym (as_many big p.names) in
+    let line : AreOnOneLine lined = are_on_one_line big p.names in
+    let distinct : AreDistinct lined = still_distinct big p.names can.names_differ (omega arith) in
+    let writable : (grammar : Grammar) → grammar ∈ p.back → IsWritableGrammar (length lined) grammar =
+    λ grammar i. subst (λ (m : ℕ). IsWritableGrammar m grammar) many (back_writable can passed.full grammar i)
+    in
+    let arcs_named : AreArcsNamed (length lined) p.left.arcs = subst (λ (m : ℕ). AreArcsNamed m p.left.arcs) many named in
+    let printed : IsDeckOf (deck_text lined p.back p.left) p.others p.more p.read = subst (λ (text : List ℕ). IsDeckOf text p.others p.more p.read) passed.alike p.accepted in
+    let contained = among p.limit lined p.others p.back p.more p.left p.read line distinct writable valid passed.few arcs_named printed in
+    let (f, g, is, carries) = renaming p.others lined (names_of_deck p.accepted).1 contained in
+    let carries_too : Carries g p.others p.names = carries_back big g p.others p.names (omega arith) carries in
     outcome_together p.limit p.names p.graph p.left p.front p.back p.first p.second p.ending p.leaves
-    (outcome p.limit p.names p.others p.back p.more p.left p.read can.names_on_one_line can.names_differ writable valid small named p.accepted g carries f is p.second p.ending p.goes_on)
+    (outcome p.limit lined p.others p.back p.more p.left p.read line distinct writable valid passed.few arcs_named printed g carries f is p.names carries_too p.second p.ending p.goes_on)

@@ -14,6 +14,12 @@ pub mod DecksUnderOthers
 pub mod Renumbering
 pub mod TwoPieces
 pub mod MarksRead
+pub mod Neighbours
+pub mod QuotedFronts
+pub mod Passing
+pub mod PassingRules
+pub mod PassingDecks
+pub mod OneLineNames
 pub mod Cutting
 pub mod InTwoPieces
 pub mod FromTheFirst

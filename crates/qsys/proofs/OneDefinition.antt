@@ -2,7 +2,8 @@
 use Rattle.std.proofs.Common.{◌≡◌, ℕ, List, [], ◌∷◌, Option, Some, None, refl, sym, ap, ◌∙◌, subst, inl, inr, arith}
 use Rattle.std.specs.Io.KnownBytes.{append_known}
 use Rattle.std.proofs.lemmas.List.{append-nil}
-use Rattle.qs_io.specs.Devices.{AppendsPrefix, AppendsProperPrefix}
+use Rattle.qs_io.specs.Devices.{AppendsProperPrefix}
+use Rattle.qs_io.specs.working.Devices.{AppendsPrefix}
 use Rattle.qs_lex.specs.declared.refusal.Refusal.{Refusal}
 use Rattle.qs_graph.specs.Graphs.{QGraph}
 use Rattle.qs_pattern.specs.Rules.{Rule}

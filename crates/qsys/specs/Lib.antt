@@ -6,5 +6,6 @@ pub mod Defined
 pub mod Words
 pub mod Options
 pub mod Answers
+pub mod Calls
 pub mod Statuses
 pub mod Cascading

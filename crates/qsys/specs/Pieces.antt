@@ -1,11 +1,9 @@
 -- A cascade in two pieces: when its first grammars leave a graph, with which a cascade of the others can go on. This
 -- project's own.
-use Rattle.std.specs.Prelude.{◌≡◌, ◌<◌, ℕ, List, [], ◌∷◌, ◌++◌, length, map, Option, Some, None}
+use Rattle.std.specs.Prelude.{◌≡◌, ◌<◌, ℕ, false, List, [], ◌∷◌, ◌++◌, length, map, Option, Some, None}
 use Rattle.qs_tree.specs.Lists.{◌∈◌}
 use Rattle.qs_tree.specs.Names.{AreDistinct}
-use Rattle.qs_pattern.specs.Conditions.{Condition}
 use Rattle.qs_pattern.specs.Rules.{Rule}
-use Rattle.qs_ruletext.specs.Written.{AreOnOneLine, HasFullLists}
 use Rattle.qs_graph.specs.Graphs.{QGraph, IsValid}
 use Rattle.qs_graphtext.specs.Texts.{AreArcsNamed}
 use Rattle.qs_clean.specs.Cascades.{Cascade, Left, a_graph, no_arc, over, Ending, all_done}
@@ -37,21 +35,19 @@ AreGrammarsNamed n grammars =
     (grammar : Grammar) → grammar ∈ grammars
     → (grammar.name.0 < n) × ((rule : Rule) → rule ∈ grammar.rules → IsRuleNamed n rule)
 
--- No condition in these grammars compares an empty list. In a text none does.
-abbrev pub GrammarsHaveFullLists : List Grammar → Type 0
-GrammarsHaveFullLists grammars =
-    (grammar : Grammar) → grammar ∈ grammars → (rule : Rule) → rule ∈ grammar.rules
-    → (c : Condition) → rule.condition ≡ Some c → HasFullLists c
+-- No rule in these grammars is marked. No text tells a mark.
+abbrev pub AreWithoutMarks : List Grammar → Type 0
+AreWithoutMarks grammars =
+    (grammar : Grammar) → grammar ∈ grammars → (rule : Rule) → rule ∈ grammar.rules → rule.unique ≡ false
 
 -- What is asked of a cascade that is run in two pieces, `front` and then `back`, with these names for labels: that the
--- names differ, and none of them holds the end of a line; that the rules are accepted, the graph is valid, and each
--- label has a name; and that `back` can be written.
+-- rules are accepted and those of `back` without a mark, the graph is valid, and each label has a name, and that no two
+-- names are equal.
 pub record CanBeCut (names : List (List ℕ)) (graph : QGraph) (front back : List Grammar) : Type 0 where
   pub names_differ : AreDistinct names
-  pub names_on_one_line : AreOnOneLine names
   pub accepted : AreAccepted (front ++ back)
   pub named : AreGrammarsNamed (length names) (front ++ back)
-  pub full : GrammarsHaveFullLists back
+  pub without_marks : AreWithoutMarks back
   pub valid : IsValid graph
   pub arcs_named : AreArcsNamed (length names) graph.arcs
 

@@ -4,9 +4,8 @@ use Rattle.std.specs.Prelude.{ℕ, List, ◌++◌, codes, decimal}
 use Rattle.qs_tree.specs.declared.cell.Label.{Label}
 use Rattle.qs_tree.specs.Text.{name_of, label_text}
 use Rattle.qs_graph.specs.Graphs.{QGraph}
-use Rattle.qs_lex.specs.declared.refusal.Cause.{Cause}
-use Rattle.qs_lex.specs.declared.refusal.Cause.TheVariants.{NotUtf8, BadCharacter, OpenQuote, BadWord, BadVariable, TooDeep, Syntax, TooManySystems, SideTooLong, TooManyCells, TooManyVariables, Unbound, TooManyArcs, Cycle, Entries, Exits}
 use Rattle.qs_lex.specs.declared.refusal.Refusal.{Refusal}
+use Rattle.qs_lex.specs.Refusals.{cause_name}
 use Rattle.qs_graphtext.specs.Texts.{line, graph_text}
 
 -- The first line of a block names the grammar: `# S`
@@ -42,25 +41,6 @@ counts_text firings arcs = decimal firings ++ (codes " " ++ (decimal arcs ++ cod
 abbrev pub summary_line : ℕ → ℕ → ℕ → ℕ → List ℕ
 summary_line size words firings arcs =
     line (codes "-FAIT- " ++ (decimal size ++ (codes " " ++ (decimal words ++ (codes " " ++ counts_text firings arcs)))))
-
--- The name by which a cause is told.
-abbrev pub cause_name : Cause → List ℕ
-cause_name NotUtf8 = codes "NotUtf8"
-cause_name BadCharacter = codes "BadCharacter"
-cause_name OpenQuote = codes "OpenQuote"
-cause_name BadWord = codes "BadWord"
-cause_name BadVariable = codes "BadVariable"
-cause_name TooDeep = codes "TooDeep"
-cause_name Syntax = codes "Syntax"
-cause_name TooManySystems = codes "TooManySystems"
-cause_name SideTooLong = codes "SideTooLong"
-cause_name TooManyCells = codes "TooManyCells"
-cause_name TooManyVariables = codes "TooManyVariables"
-cause_name Unbound = codes "Unbound"
-cause_name TooManyArcs = codes "TooManyArcs"
-cause_name Cycle = codes "Cycle"
-cause_name Entries = codes "Entries"
-cause_name Exits = codes "Exits"
 
 -- What is written for a text that is refused: `-REFUS- 2 3 BadCharacter.`
 abbrev pub refusal_line : Refusal → List ℕ

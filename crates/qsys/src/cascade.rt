@@ -1,10 +1,10 @@
 //! Running the grammars of a deck one after another.
 
-ghost use Rattle.std.specs.Prelude.{◌≡◌, ◌≢◌, ◌≤◌, length, map};
-ghost use Rattle.qs_io.specs.Devices.{HasRisen};
+ghost use Rattle.std.specs.Prelude.{length, map};
 ghost use Rattle.qs_deck.specs.Decks.{grammar_of};
 ghost use Rattle.qs_deck.specs.Named.{AreSystemsNamed};
 ghost use Rattle.qsys.specs.Words.{IsLimit};
+ghost use Rattle.qsys.specs.Calls.{TellsWriteFaults};
 ghost use Rattle.qsys.specs.Cascading.{AreAccepted, CanGoOn, DeliversCascade};
 
 use crate::blocks::block;
@@ -35,9 +35,7 @@ pub fn cascade<K: Sink>(
     requires accepted { AreAccepted (map grammar_of systems.now) }
     requires can_go_on { CanGoOn names.now start (length systems.now) }
     ensures delivers { DeliversCascade limit names.now start (map grammar_of systems.now) (K.written sink.old) (K.written sink.new) result }
-    ensures fault { result ≡ Status.WriteFault → HasRisen (K.faults sink.old) (K.faults sink.new) }
-    ensures no_fault { result ≢ Status.WriteFault → K.faults sink.new ≡ K.faults sink.old }
-    ensures count { K.faults sink.old ≤ K.faults sink.new }
+    ensures writes { TellsWriteFaults (K.faults sink.old) (K.faults sink.new) result }
 {
     let mut graph = start;
     for system in systems {

@@ -1,15 +1,14 @@
 //! The whole program over a reader and a writer of std.
 
-ghost use Rattle.std.specs.Prelude.{◌≡◌, ◌≢◌, ◌⊎◌, ◌+◌, [], ◌<◌, ◌≤◌, Some, IsTrue, length, map};
+ghost use Rattle.std.specs.Prelude.{◌≡◌, ◌⊎◌, [], ◌≤◌, Some, IsTrue, length, map};
 ghost use Rattle.std.specs.String.{string_bytes};
-ghost use Rattle.qs_io.specs.Devices.{AppendsProperPrefix, Gives};
 ghost use Rattle.qs_io.specs.Limits.{most_text_bytes};
 ghost use Rattle.qsys.specs.declared.job.Job.{Job};
 ghost use Rattle.qsys.specs.declared.job.Command.TheVariants.{Made};
-ghost use Rattle.qsys.specs.Texts.{usage_line};
 ghost use Rattle.qsys.specs.Words.{IsJobOf, AreRefused};
 ghost use Rattle.qsys.specs.Defined.{Reads};
 ghost use Rattle.qsys.specs.Answers.{EndsAsDefined, IsOfWholeText, WritesDefined};
+ghost use Rattle.qsys.specs.Calls.{AnswersWords, IsAnswerOfMade, TellsReadFaults, TellsWriteFaults, WritesUsage};
 
 use crate::status::Status;
 use crate::top::{qsys, write_usage};
@@ -47,7 +46,7 @@ pub fn run_over<R: Read, W: Write>(
     ensures nothing_read_by_made { (job : Job) → IsJobOf (map string_bytes words.now) job → job.command ≡ Made
         → result.source.given ≡ [] }
     ensures made_answers { (job : Job) → IsJobOf (map string_bytes words.now) job → job.command ≡ Made
-        → (result.status ≢ Status.Refused) × (result.status ≢ Status.ReadFault) × (result.status ≢ Status.TooLong) }
+        → IsAnswerOfMade result.status }
     // With no fault and not too many bytes, only memory can be wanting.
     ensures complete { (job : Job) → IsJobOf (map string_bytes words.now) job
         → length result.source.given ≤ most_text_bytes → result.source.faults ≡ 0 → result.sink.sink.faults ≡ 0
@@ -56,19 +55,13 @@ pub fn run_over<R: Read, W: Write>(
 
     // Words that give no job are answered with the usage line, where there is memory to read them, and nothing is
     // read for them.
-    ensures usage { result.status ≡ Status.Usage
-        → AreRefused (map string_bytes words.now) × (result.sink.taken ≡ usage_line) }
-    ensures refused_words { AreRefused (map string_bytes words.now) → (result.status ≡ Status.Usage)
-        ⊎ ((result.status ≡ Status.WriteFault) × AppendsProperPrefix (Some []) (Some result.sink.taken) usage_line)
-        ⊎ ((result.status ≡ Status.Memory) × (result.sink.taken ≡ [])) }
+    ensures words { AnswersWords (map string_bytes words.now) (Some []) (Some result.sink.taken) result.status }
     ensures nothing_read { AreRefused (map string_bytes words.now) → result.source.given ≡ [] }
 
-    // At most one byte more than a text may have is given, and a text is too long exactly where it is.
-    ensures gives { Gives [] result.source.given (most_text_bytes + 1) (result.status ≡ Status.TooLong) }
-    ensures read_fault { result.status ≡ Status.ReadFault → 0 < result.source.faults }
-    ensures write_fault { result.status ≡ Status.WriteFault → 0 < result.sink.sink.faults }
-    ensures no_read_fault { result.status ≢ Status.ReadFault → result.source.faults ≡ 0 }
-    ensures no_write_fault { result.status ≢ Status.WriteFault → result.sink.sink.faults ≡ 0 }
+    // A fault is answered exactly where the reader or the writer failed. At most one byte more than a text may have is
+    // given, and a text is too long exactly where it is.
+    ensures reads { TellsReadFaults 0 result.source.faults [] result.source.given result.status }
+    ensures writes { TellsWriteFaults 0 result.sink.sink.faults result.status }
 {
     let mut source = StdSource::new(reader);
     let mut sink = TracedSink::new(StdSink::new(writer));
@@ -92,11 +85,8 @@ pub struct RefusedRun<W> {
 /// no job. `WriteFault` comes only where the writer failed; then a proper prefix of the line was written. Nothing is
 /// read, and no memory is taken.
 pub fn refuse_over<W: Write>(writer: W) -> RefusedRun<W>
-    ensures usage { result.status ≡ Status.Usage → result.sink.taken ≡ usage_line }
-    ensures answers { (result.status ≡ Status.Usage)
-        ⊎ ((result.status ≡ Status.WriteFault) × AppendsProperPrefix (Some []) (Some result.sink.taken) usage_line) }
-    ensures write_fault { result.status ≡ Status.WriteFault → 0 < result.sink.sink.faults }
-    ensures no_write_fault { result.status ≢ Status.WriteFault → result.sink.sink.faults ≡ 0 }
+    ensures usage { WritesUsage (Some []) (Some result.sink.taken) result.status }
+    ensures writes { TellsWriteFaults 0 result.sink.sink.faults result.status }
 {
     let mut sink = TracedSink::new(StdSink::new(writer));
     let status = write_usage(&mut sink);

@@ -1,15 +1,14 @@
 //! A run: from the bytes of a source to those of a sink.
 
-ghost use Rattle.std.specs.Prelude.{◌≡◌, ◌≢◌, ◌⊎◌, ◌↔◌, ◌+◌, ◌≤◌, ℕ, List, Some, Result, Ok, Err, IfOk, length, map};
-ghost use Rattle.std.specs.Io.KnownBytes.{IsAtEnd};
+ghost use Rattle.std.specs.Prelude.{◌≡◌, ◌≢◌, ◌⊎◌, ◌≤◌, ℕ, List, Some, Result, Ok, Err, IfOk, length, map};
 ghost use Rattle.qs_graphtext.specs.Texts.{graph_text};
-ghost use Rattle.qs_io.specs.Devices.{Gives, HasRisen, TakesBytes};
 ghost use Rattle.qs_io.specs.Limits.{most_text_bytes};
 ghost use Rattle.qs_deck.specs.Decks.{grammar_of};
 ghost use Rattle.qs_deck.specs.Texts.{deck_text};
 ghost use Rattle.qsys.specs.Words.{IsLimit};
 ghost use Rattle.qsys.specs.Defined.{Reads};
-ghost use Rattle.qsys.specs.Answers.{EndsAsDefined, EndsAsGiven, IsOfWholeText, WritesDefined};
+ghost use Rattle.qsys.specs.Answers.{EndsAsDefined, IsOfWholeText};
+ghost use Rattle.qsys.specs.Calls.{DoesJob, HasCause, TellsWriteFaults};
 ghost use Rattle.qsys.specs.Cascading.{IsAnswered, IsWritten};
 
 use crate::cascade::cascade;
@@ -45,9 +44,7 @@ fn graph_text(alloc: Global, deck: &Deck) -> Result<Vec<u8>, AllocError>
 fn write_text<K: Sink>(sink: &mut K, text: Result<Vec<u8>, AllocError>, status: Status) -> Status
     requires { IsOfWholeText status }
     ensures written { IsWritten text (K.written sink.old) (K.written sink.new) status result }
-    ensures fault { result ≡ Status.WriteFault → HasRisen (K.faults sink.old) (K.faults sink.new) }
-    ensures no_fault { result ≢ Status.WriteFault → K.faults sink.new ≡ K.faults sink.old }
-    ensures count { K.faults sink.old ≤ K.faults sink.new }
+    ensures writes { TellsWriteFaults (K.faults sink.old) (K.faults sink.new) result }
 {
     let Ok(text) = text else {
         return Status::Memory;
@@ -66,9 +63,7 @@ fn answer<K: Sink>(alloc: Global, job: &Job, bytes: &[u8], sink: &mut K) -> Stat
     requires bytes { length bytes.now ≤ most_text_bytes }
     ensures answered { IsAnswered job.now bytes.now (K.written sink.old) (K.written sink.new) result }
     ensures kinds { IsOfWholeText result ⊎ (result ≡ Status.WriteFault) ⊎ (result ≡ Status.Memory) }
-    ensures fault { result ≡ Status.WriteFault → HasRisen (K.faults sink.old) (K.faults sink.new) }
-    ensures no_fault { result ≢ Status.WriteFault → K.faults sink.new ≡ K.faults sink.old }
-    ensures count { K.faults sink.old ≤ K.faults sink.new }
+    ensures writes { TellsWriteFaults (K.faults sink.old) (K.faults sink.new) result }
 {
     let deck = match read_deck(alloc, bytes) {
         Ok(deck) => deck,
@@ -101,9 +96,7 @@ fn tell_made<K: Sink>(alloc: Global, job: &Job, sink: &mut K) -> Status
     ensures headline { (bytes : List ℕ) → EndsAsDefined job.now bytes (K.written sink.old) (K.written sink.new) result }
     ensures kinds { (result ≡ Status.Done) ⊎ (result ≡ Status.Limit)
         ⊎ (result ≡ Status.WriteFault) ⊎ (result ≡ Status.Memory) }
-    ensures fault { result ≡ Status.WriteFault → HasRisen (K.faults sink.old) (K.faults sink.new) }
-    ensures no_fault { result ≢ Status.WriteFault → K.faults sink.new ≡ K.faults sink.old }
-    ensures count { K.faults sink.old ≤ K.faults sink.new }
+    ensures writes { TellsWriteFaults (K.faults sink.old) (K.faults sink.new) result }
 {
     let Ok(end) = made_end(alloc, job.size, job.limit) else {
         return Status::Memory;
@@ -125,28 +118,9 @@ fn read_and_answer<S: Source, K: Sink>(
 
     ensures headline { (bytes : List ℕ) → S.left source.old ≡ Some bytes
         → EndsAsDefined job.now bytes (K.written sink.old) (K.written sink.new) result }
-    ensures complete { (bytes : List ℕ) → S.left source.old ≡ Some bytes → length bytes ≤ most_text_bytes
-        → ¬ HasRisen (S.faults source.old) (S.faults source.new) → ¬ HasRisen (K.faults sink.old) (K.faults sink.new)
-        → WritesDefined job.now bytes (K.written sink.old) (K.written sink.new) result ⊎ (result ≡ Status.Memory) }
-
-    ensures as_given { EndsAsGiven job.now (S.given source.old) (S.given source.new)
-        (K.written sink.old) (K.written sink.new) result }
-    ensures ended { IsOfWholeText result → S.has_ended source.new }
-    ensures read_to_end { IsOfWholeText result → IsAtEnd (S.left source.new) }
-
-    ensures read_fault { result ≡ Status.ReadFault → HasRisen (S.faults source.old) (S.faults source.new) }
-    ensures too_long { (n : ℕ) × TakesBytes (S.left source.old) (S.left source.new) n × (n ≤ most_text_bytes + 1)
-        × (result ≡ Status.TooLong ↔ (n ≡ most_text_bytes + 1)) }
-    ensures gives { Gives (S.given source.old) (S.given source.new) (most_text_bytes + 1) (result ≡ Status.TooLong) }
-    ensures nothing_written { (result ≡ Status.ReadFault) ⊎ (result ≡ Status.TooLong)
-        → K.written sink.new ≡ K.written sink.old }
-    ensures write_fault { result ≡ Status.WriteFault → HasRisen (K.faults sink.old) (K.faults sink.new) }
-    ensures no_read_fault { result ≢ Status.ReadFault → S.faults source.new ≡ S.faults source.old }
-    ensures no_write_fault { result ≢ Status.WriteFault → K.faults sink.new ≡ K.faults sink.old }
+    ensures does_job { DoesJob S.Source K.Sink job.now source.old source.new sink.old sink.new result }
+    ensures cause { HasCause S.Source K.Sink source.old source.new sink.old sink.new result }
     ensures not_usage { result ≢ Status.Usage }
-
-    ensures source_count { S.faults source.old ≤ S.faults source.new }
-    ensures sink_count { K.faults sink.old ≤ K.faults sink.new }
 {
     let bytes = match read_all(alloc, source) {
         Ok(bytes) => bytes,
@@ -185,34 +159,12 @@ pub fn run_still<S: Source, K: Sink>(
     // counted or want of memory stops it, at a prefix.
     ensures headline { (bytes : List ℕ) → S.left source.old ≡ Some bytes
         → EndsAsDefined job.now bytes (K.written sink.old) (K.written sink.new) result }
-    // With no fault and not too many bytes, only memory can be wanting.
-    ensures complete { (bytes : List ℕ) → S.left source.old ≡ Some bytes → length bytes ≤ most_text_bytes
-        → ¬ HasRisen (S.faults source.old) (S.faults source.new) → ¬ HasRisen (K.faults sink.old) (K.faults sink.new)
-        → WritesDefined job.now bytes (K.written sink.old) (K.written sink.new) result ⊎ (result ≡ Status.Memory) }
-
-    // The same of the bytes that the reads of this call gave, which every source tells.
-    ensures as_given { EndsAsGiven job.now (S.given source.old) (S.given source.new)
-        (K.written sink.old) (K.written sink.new) result }
-    // A command that reads, reads to the end before it writes; the one that makes a deck reads nothing.
-    ensures ended { Reads job.now.command → IsOfWholeText result → S.has_ended source.new }
-    ensures read_to_end { Reads job.now.command → IsOfWholeText result → IsAtEnd (S.left source.new) }
-    ensures nothing_read { job.now.command ≡ Command.Made → source.new ≡ source.old }
-    ensures made_answers { job.now.command ≡ Command.Made
-        → (result ≢ Status.Refused) × (result ≢ Status.ReadFault) × (result ≢ Status.TooLong) }
-
-    ensures read_fault { result ≡ Status.ReadFault → HasRisen (S.faults source.old) (S.faults source.new) }
-    ensures too_long { (n : ℕ) × TakesBytes (S.left source.old) (S.left source.new) n × (n ≤ most_text_bytes + 1)
-        × (result ≡ Status.TooLong ↔ (n ≡ most_text_bytes + 1)) }
-    ensures gives { Gives (S.given source.old) (S.given source.new) (most_text_bytes + 1) (result ≡ Status.TooLong) }
-    ensures nothing_written { (result ≡ Status.ReadFault) ⊎ (result ≡ Status.TooLong)
-        → K.written sink.new ≡ K.written sink.old }
-    ensures write_fault { result ≡ Status.WriteFault → HasRisen (K.faults sink.old) (K.faults sink.new) }
-    ensures no_read_fault { result ≢ Status.ReadFault → S.faults source.new ≡ S.faults source.old }
-    ensures no_write_fault { result ≢ Status.WriteFault → K.faults sink.new ≡ K.faults sink.old }
+    // The same of the bytes that the reads of this call gave; with no fault and not too many bytes, only memory can be
+    // wanting; and how far each command reads.
+    ensures does_job { DoesJob S.Source K.Sink job.now source.old source.new sink.old sink.new result }
+    // A fault is answered exactly where it was counted, and a text is too long exactly where too many bytes were taken.
+    ensures cause { HasCause S.Source K.Sink source.old source.new sink.old sink.new result }
     ensures not_usage { result ≢ Status.Usage }
-
-    ensures source_count { S.faults source.old ≤ S.faults source.new }
-    ensures sink_count { K.faults sink.old ≤ K.faults sink.new }
 {
     match job.command {
         Command::Run | Command::Check | Command::Graph => read_and_answer(alloc, job, source, sink),

@@ -1,16 +1,11 @@
 //! The whole program, but for its devices.
 
-ghost use Rattle.std.specs.Prelude.{◌≡◌, ◌≢◌, ◌⊎◌, ◌↔◌, ◌+◌, ◌≤◌, ℕ, List, Some, length, map};
-ghost use Rattle.std.specs.Io.KnownBytes.{IsAtEnd, append_known};
+ghost use Rattle.std.specs.Prelude.{◌≡◌, ℕ, List, Some, map};
 ghost use Rattle.std.specs.String.{string_bytes};
-ghost use Rattle.qs_io.specs.Devices.{AppendsProperPrefix, Gives, HasRisen, TakesBytes};
-ghost use Rattle.qs_io.specs.Limits.{most_text_bytes};
 ghost use Rattle.qsys.specs.declared.job.Job.{Job};
-ghost use Rattle.qsys.specs.declared.job.Command.TheVariants.{Made};
-ghost use Rattle.qsys.specs.Texts.{usage_line};
 ghost use Rattle.qsys.specs.Words.{IsJobOf, AreRefused};
-ghost use Rattle.qsys.specs.Defined.{Reads};
-ghost use Rattle.qsys.specs.Answers.{EndsAsDefined, EndsAsGiven, IsOfWholeText, WritesDefined};
+ghost use Rattle.qsys.specs.Answers.{EndsAsDefined};
+ghost use Rattle.qsys.specs.Calls.{AnswersWords, DoesJob, HasCause, TellsWriteFaults, WritesUsage};
 
 use crate::run::run_still;
 use crate::status::Status;
@@ -23,12 +18,8 @@ const USAGE: &[u8] = b"usage: qsys run|check|graph|made [--limit N] [--workers N
 
 /// Writes the usage line. `WriteFault` comes only where the sink failed; then a proper prefix of the line was written.
 pub fn write_usage<K: Sink>(sink: &mut K) -> Status
-    ensures written { result ≡ Status.Usage → K.written sink.new ≡ append_known (K.written sink.old) usage_line }
-    ensures answers { (result ≡ Status.Usage)
-        ⊎ ((result ≡ Status.WriteFault) × AppendsProperPrefix (K.written sink.old) (K.written sink.new) usage_line) }
-    ensures fault { result ≡ Status.WriteFault → HasRisen (K.faults sink.old) (K.faults sink.new) }
-    ensures no_fault { result ≢ Status.WriteFault → K.faults sink.new ≡ K.faults sink.old }
-    ensures count { K.faults sink.old ≤ K.faults sink.new }
+    ensures usage { WritesUsage (K.written sink.old) (K.written sink.new) result }
+    ensures writes { TellsWriteFaults (K.faults sink.old) (K.faults sink.new) result }
 {
     match write_all(sink, USAGE) {
         Ok(()) => Status::Usage,
@@ -53,46 +44,18 @@ pub fn qsys<S: Source, K: Sink>(
     ensures headline { (job : Job) → IsJobOf (map string_bytes words.now) job
         → (bytes : List ℕ) → S.left source.old ≡ Some bytes
         → EndsAsDefined job bytes (K.written sink.old) (K.written sink.new) result }
-    // With no fault and not too many bytes, only memory can be wanting.
-    ensures complete { (job : Job) → IsJobOf (map string_bytes words.now) job
-        → (bytes : List ℕ) → S.left source.old ≡ Some bytes → length bytes ≤ most_text_bytes
-        → ¬ HasRisen (S.faults source.old) (S.faults source.new) → ¬ HasRisen (K.faults sink.old) (K.faults sink.new)
-        → WritesDefined job bytes (K.written sink.old) (K.written sink.new) result ⊎ (result ≡ Status.Memory) }
-
-    // The same of the bytes that the reads of this call gave, which every source tells.
-    ensures as_given { (job : Job) → IsJobOf (map string_bytes words.now) job
-        → EndsAsGiven job (S.given source.old) (S.given source.new) (K.written sink.old) (K.written sink.new) result }
-    // A command that reads, reads to the end before it writes.
-    ensures ended { (job : Job) → IsJobOf (map string_bytes words.now) job → Reads job.command
-        → IsOfWholeText result → S.has_ended source.new }
-    ensures read_to_end { (job : Job) → IsJobOf (map string_bytes words.now) job → Reads job.command
-        → IsOfWholeText result → IsAtEnd (S.left source.new) }
-    // The one that makes a deck reads nothing.
-    ensures nothing_read_by_made { (job : Job) → IsJobOf (map string_bytes words.now) job → job.command ≡ Made
-        → source.new ≡ source.old }
-    ensures made_answers { (job : Job) → IsJobOf (map string_bytes words.now) job → job.command ≡ Made
-        → (result ≢ Status.Refused) × (result ≢ Status.ReadFault) × (result ≢ Status.TooLong) }
+    // The same of the bytes that the reads of this call gave; with no fault and not too many bytes, only memory can be
+    // wanting; and how far each command reads.
+    ensures does_job { (job : Job) → IsJobOf (map string_bytes words.now) job
+        → DoesJob S.Source K.Sink job source.old source.new sink.old sink.new result }
 
     // Words that give no job are answered with the usage line, where there is memory to read them, and nothing is read for
     // them.
-    ensures usage { result ≡ Status.Usage → AreRefused (map string_bytes words.now) × (K.written sink.new ≡ append_known (K.written sink.old) usage_line) }
-    ensures refused_words { AreRefused (map string_bytes words.now) → (result ≡ Status.Usage)
-        ⊎ ((result ≡ Status.WriteFault) × AppendsProperPrefix (K.written sink.old) (K.written sink.new) usage_line)
-        ⊎ ((result ≡ Status.Memory) × (K.written sink.new ≡ K.written sink.old)) }
+    ensures words { AnswersWords (map string_bytes words.now) (K.written sink.old) (K.written sink.new) result }
     ensures nothing_read { AreRefused (map string_bytes words.now) → source.new ≡ source.old }
 
-    ensures read_fault { result ≡ Status.ReadFault → HasRisen (S.faults source.old) (S.faults source.new) }
-    ensures too_long { (n : ℕ) × TakesBytes (S.left source.old) (S.left source.new) n × (n ≤ most_text_bytes + 1)
-        × (result ≡ Status.TooLong ↔ (n ≡ most_text_bytes + 1)) }
-    ensures gives { Gives (S.given source.old) (S.given source.new) (most_text_bytes + 1) (result ≡ Status.TooLong) }
-    ensures nothing_written { (result ≡ Status.ReadFault) ⊎ (result ≡ Status.TooLong) → K.written sink.new ≡ K.written sink.old }
-    ensures write_fault { result ≡ Status.WriteFault → HasRisen (K.faults sink.old) (K.faults sink.new) }
-    // So where a whole text was written, the usage line or another, no fault was counted.
-    ensures no_read_fault { result ≢ Status.ReadFault → S.faults source.new ≡ S.faults source.old }
-    ensures no_write_fault { result ≢ Status.WriteFault → K.faults sink.new ≡ K.faults sink.old }
-
-    ensures source_count { S.faults source.old ≤ S.faults source.new }
-    ensures sink_count { K.faults sink.old ≤ K.faults sink.new }
+    // A fault is answered exactly where it was counted, and a text is too long exactly where too many bytes were taken.
+    ensures cause { HasCause S.Source K.Sink source.old source.new sink.old sink.new result }
 {
     match read_words(alloc, words) {
         Ok(job) => run_still(alloc, &job, source, sink),

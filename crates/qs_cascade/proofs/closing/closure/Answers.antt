@@ -7,8 +7,8 @@ use Rattle.qs_firing.specs.Firings.{Firing}
 use Rattle.qs_canon.specs.Rounds.{Stage, after}
 use Rattle.qs_canon.specs.Closures.{ClosureOf}
 use Rattle.qs_canon.proofs.Rounds.{length-after}
-use Rattle.qs_cascade.specs.Finding.{FindsRound}
-use Rattle.qs_cascade.specs.Closing.{ClosesSoon}
+use Rattle.qs_cascade.specs.working.Finding.{FindsRound}
+use Rattle.qs_cascade.specs.working.Closing.{ClosesSoon}
 use Rattle.qs_cascade.proofs.Closings.{Goes, goes_first, goes_next, gives_up, passes, closes_soon}
 use Rattle.qs_cascade.proofs.closing.closure.Goals as goal
 
@@ -39,7 +39,7 @@ pub returns-in_default : goal.returns-in_default
 returns-in_default c =
     let x = subst (FindsRound c.args.rules.now c.rounds.arcs.arcs c.rounds.old (c.args.limit - c.len.result)) c.in_default.is c.in_ok-found.ensures in
     let room : c.args.limit - c.len.result ≡ c.args.limit - length c.rounds.done.items = omega (arith, c.len.ensures, c.rounds.done.ok.0) in
-    gives_up c.args.rules.now c.args.start.now c.args.limit c.rounds.round c.rounds.old (c.args.limit - c.len.result) (record { graph = c.rounds.arcs; done = c.rounds.done.items }) c.know_accepted.ensures c.rounds.invariant room x
+    gives_up c.args.rules.now c.args.start.now c.args.limit c.rounds.round c.rounds.old (c.args.limit - c.len.result) (record { graph = c.rounds.arcs; done = c.rounds.done.items }) c.are_unique-unique.ensures.accepted c.rounds.invariant room x
 
 pub returns-then-is_empty : goal.returns-then-is_empty
 returns-then-is_empty c =
@@ -49,7 +49,7 @@ returns-then-is_empty c =
     let first : length c.edges.result.now ≡ length c.args.start.now.arcs = ap (λ (arcs : List Arc). length arcs) c.edges.ensures.value in
     subst (λ (x : ClosureOf). ClosesSoon c.args.rules.now c.args.start.now c.args.limit x) (sym c.into_closure.ensures)
     (closes_soon c.args.rules.now c.args.start.now c.args.limit c.rounds.round c.rounds.old (c.args.limit - c.len.result) S c.in-Some.found.items c.entry-entry.result c.exit-exit.result (length c.edges.result.now)
-    c.know_accepted.ensures c.edges.ensures.valid c.rounds.invariant x (nil_from_length c.in-Some.found.items none) c.entry-entry.ensures c.exit-exit.ensures first)
+    c.are_unique-unique.ensures.accepted c.edges.ensures.valid c.rounds.invariant x (nil_from_length c.in-Some.found.items none) c.entry-entry.ensures c.exit-exit.ensures first)
 
 pub returns-then-len-room : goal.returns-then-len-room
 returns-then-len-room c =

@@ -1,5 +1,5 @@
 use Rattle.std.proofs.Common.{◌+◌, true, false, [], subst}
-use Rattle.qs_cascade.specs.Finding.{Finds, Begins}
+use Rattle.qs_cascade.specs.working.Finding.{Finds, Begins}
 use Rattle.qs_cascade.proofs.Places.{at_place}
 use Rattle.qs_cascade.proofs.Findings.{finds_same, finds_stop}
 use Rattle.qs_cascade.proofs.Together.{one_rule, new_of, all_below}

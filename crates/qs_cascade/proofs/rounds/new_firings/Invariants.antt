@@ -1,5 +1,5 @@
 use Rattle.std.proofs.Common.{[], true}
-use Rattle.qs_cascade.specs.Finding.{Finds}
+use Rattle.qs_cascade.specs.working.Finding.{Finds}
 use Rattle.qs_cascade.proofs.Together.{NewBelow}
 use Rattle.qs_cascade.proofs.rounds.new_firings.Given as goal
 

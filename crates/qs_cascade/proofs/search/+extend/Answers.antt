@@ -3,18 +3,19 @@ use Rattle.std.proofs.lemmas.Result.{IfOk-weaker}
 use Rattle.std.proofs.lemmas.List.{take_more, take_all}
 use Rattle.std.proofs.lemmas.Option.{slice_get_within}
 use Rattle.qs_tree.specs.Lists.{◌∈◌, Ascends}
-use Rattle.qs_pattern.specs.Patterns.{count, one_pattern}
+use Rattle.qs_pattern.specs.Patterns.{count}
+use Rattle.qs_pattern.specs.working.Patterns.{one_pattern}
 use Rattle.qs_pattern.specs.Substitutions.{Substitution}
 use Rattle.qs_pattern.specs.Instances.{inst}
 use Rattle.qs_graph.specs.Graphs.{Arc, IsPath, IsNode}
-use Rattle.qs_cascade.specs.Leaving.{leaving}
-use Rattle.qs_cascade.specs.Finding.{Finds, GoesOn, Begins, IsNewPath}
+use Rattle.qs_cascade.specs.working.Leaving.{leaving}
+use Rattle.qs_cascade.specs.working.Finding.{Finds, GoesOn, Begins, IsNewPath}
 use Rattle.qs_cascade.proofs.Places.{at_place}
 use Rattle.qs_cascade.proofs.Findings.{finds_same, finds_none, finds_stop, true_is_not_false}
 use Rattle.qs_cascade.proofs.Following.{left_by, leaving-ascends, goes_on, begins_of, one_more, one_refused, path_and_arc}
 use Rattle.qs_cascade.proofs.Refusing.{refused}
-use Rattle.qs_graph.proofs.Numbers.{in_at}
-use Rattle.qs_firing.proofs.Fired.{count-patterns}
+use Rattle.qs_tree.proofs.Members.{in_get_or}
+use Rattle.qs_pattern.proofs.PatternLemmas.{count-patterns}
 use Rattle.qs_cascade.proofs.Extending.{less_in_front, new_with, has_path, begins, never_old}
 use Rattle.qs_cascade.proofs.search.+extend.Goals as goal
 
@@ -42,7 +43,7 @@ returns-else-new t c =
 pub edge-edge-requires : goal.edge-edge-requires
 edge-edge-requires t c =
     let ks = c.leaving-arc-items.result.now in
-    let here : get_or ks c.loop-arc.arc-index 0 ∈ ks = in_at ks c.loop-arc.arc-index c.loop-arc-test.true in
+    let here : get_or ks c.loop-arc.arc-index 0 ∈ ks = in_get_or ks c.loop-arc.arc-index 0 c.loop-arc-test.true in
     let (arc, at, from) = left_by c.args.search.now.arcs.now.arcs c.args.at (get_or ks c.loop-arc.arc-index 0) (subst (λ (js : List ℕ). get_or ks c.loop-arc.arc-index 0 ∈ js) c.leaving-arc-items.ensures here) in
     slice_get_within c.args.search.now.arcs.now.arcs (get_or ks c.loop-arc.arc-index 0) arc at
 
@@ -54,7 +55,7 @@ loop-arc-preserved-then-refuses t c =
     let k : ℕ = get_or ks i 0 in
     let low = less_in_front ks (subst (λ (js : List ℕ). Ascends ◌<◌ js) (sym c.leaving-arc-items.ensures) (leaving-ascends s.arcs.now.arcs c.args.at)) i c.loop-arc-test.true in
     let at = at_place c.left.result.now (length c.args.path.now) c.in-Some.pattern.now c.in-Some.ensures.lookup.3.0 c.in-Some.ensures.lookup.1 in
-    let tree = c.view.ensures ∙ ap (λ (a : Arc). a.tree) c.edge.view_is in
+    let tree = c.view.ensures ∙ c.deref.ensures ∙ ap (λ (a : Arc). a.tree) c.edge.view_is in
     let never : (r : Substitution) → inst r (one_pattern c.in-Some.pattern.now) ≡ c.edge-edge.result.now.tree ∷ [] → ⊥ =
     λ r e. c.refuses.ensures c.if-refuses.true r (e ∙ ap (λ u. u ∷ []) (sym tree)) in
     let none = refused s.number s.rule.now c.left.result.now s.arcs.now.arcs s.old c.args.path.now k c.edge-edge.result.now c.in-Some.pattern.now
@@ -68,22 +69,22 @@ extend-requires t c =
     let ks = c.leaving-arc-items.result.now in
     let k : ℕ = get_or ks c.loop-arc.arc-index 0 in
     let side = ap count c.left.ensures.value in
-    let longer : c.deref.result.now ≡ c.args.path.now ++ k ∷ [] = c.deref.ensures.value ∙ c.in_ok-longer.ensures in
+    let longer : c.deref-in-loop-arc.result.now ≡ c.args.path.now ++ k ∷ [] = c.deref-in-loop-arc.ensures.value ∙ c.in_ok-longer.ensures in
     let more = ap (λ (js : List ℕ). length js) longer in
     let (a, p) = c.requires.path in
-    let here : k ∈ leaving s.arcs.now.arcs c.args.at = subst (λ (js : List ℕ). k ∈ js) c.leaving-arc-items.ensures (in_at ks c.loop-arc.arc-index c.loop-arc-test.true) in
+    let here : k ∈ leaving s.arcs.now.arcs c.args.at = subst (λ (js : List ℕ). k ∈ js) c.leaving-arc-items.ensures (in_get_or ks c.loop-arc.arc-index 0 c.loop-arc-test.true) in
     let (arc, at, from) = left_by s.arcs.now.arcs c.args.at k here in
     let there = c.edge-edge.ensures.at in
     let same : arc ≡ c.edge-edge.result.now = cc in
     let to = ap (λ (x : Arc). x.to) c.edge.view_is in
-    let path : IsPath s.arcs.now.arcs a c.deref.result.now c.edge.inside.to =
-    subst (λ (n : ℕ). IsPath s.arcs.now.arcs a c.deref.result.now n) (sym to)
+    let path : IsPath s.arcs.now.arcs a c.deref-in-loop-arc.result.now c.edge.inside.to =
+    subst (λ (n : ℕ). IsPath s.arcs.now.arcs a c.deref-in-loop-arc.result.now n) (sym to)
     (subst (λ (js : List ℕ). IsPath s.arcs.now.arcs a js c.edge-edge.result.now.to) (sym longer)
     (path_and_arc s.arcs.now.arcs a c.args.path.now c.args.at k c.edge-edge.result.now p.leads there (ap (λ (x : Arc). x.from) (sym same) ∙ from))) in
     let node : IsNode s.arcs.now c.edge.inside.to = subst (IsNode s.arcs.now) (sym to) c.edge-edge.ensures.to in
     let w = new_with s.old c.args.path.now k in
     let n = c.is_new-longer_new.ensures in
-    let new : IsTrue c.is_new-longer_new.result ↔ IsNewPath s.old c.deref.result.now = (
+    let new : IsTrue c.is_new-longer_new.result ↔ IsNewPath s.old c.deref-in-loop-arc.result.now = (
       λ h. subst (IsNewPath s.old) (sym longer) (w.0 (⊎_elim (λ x. inl (c.requires.new.0 x)) inr (n.0 h))),
       λ h. n.1 (⊎_elim (λ x. inl (c.requires.new.1 x)) inr (w.1 (subst (IsNewPath s.old) longer h))),
     ) in
@@ -97,7 +98,7 @@ returns-then-not-branch t c =
     let i = c.loop-arc.arc-index in
     let k : ℕ = get_or ks i 0 in
     let low = less_in_front ks (subst (λ (js : List ℕ). Ascends ◌<◌ js) (sym c.leaving-arc-items.ensures) (leaving-ascends s.arcs.now.arcs c.args.at)) i c.loop-arc-test.true in
-    let longer : c.deref.result.now ≡ c.args.path.now ++ k ∷ [] = c.deref.ensures.value ∙ c.in_ok-longer.ensures in
+    let longer : c.deref-in-loop-arc.result.now ≡ c.args.path.now ++ k ∷ [] = c.deref-in-loop-arc.ensures.value ∙ c.in_ok-longer.ensures in
     let next : Finds (Begins s.number s.rule.now s.arcs.now.arcs s.old (c.args.path.now ++ k ∷ [])) c.loop-arc.found.items c.extend.new.found.items s.room false =
     subst (λ b. Finds (Begins s.number s.rule.now s.arcs.now.arcs s.old (c.args.path.now ++ k ∷ [])) c.loop-arc.found.items c.extend.new.found.items s.room b) c.if-not-branch.true
     (subst (λ (js : List ℕ). Finds (Begins s.number s.rule.now s.arcs.now.arcs s.old js) c.loop-arc.found.items c.extend.new.found.items s.room c.in_ok-extend.field-0) longer c.in_ok-extend.ensures) in
@@ -111,7 +112,7 @@ loop-arc-preserved t c =
     let i = c.loop-arc.arc-index in
     let k : ℕ = get_or ks i 0 in
     let low = less_in_front ks (subst (λ (js : List ℕ). Ascends ◌<◌ js) (sym c.leaving-arc-items.ensures) (leaving-ascends s.arcs.now.arcs c.args.at)) i c.loop-arc-test.true in
-    let longer : c.deref.result.now ≡ c.args.path.now ++ k ∷ [] = c.deref.ensures.value ∙ c.in_ok-longer.ensures in
+    let longer : c.deref-in-loop-arc.result.now ≡ c.args.path.now ++ k ∷ [] = c.deref-in-loop-arc.ensures.value ∙ c.in_ok-longer.ensures in
     let next : Finds (Begins s.number s.rule.now s.arcs.now.arcs s.old (c.args.path.now ++ k ∷ [])) c.loop-arc.found.items c.extend.new.found.items s.room true =
     subst (λ b. Finds (Begins s.number s.rule.now s.arcs.now.arcs s.old (c.args.path.now ++ k ∷ [])) c.loop-arc.found.items c.extend.new.found.items s.room b) c.if-not-branch.false
     (subst (λ (js : List ℕ). Finds (Begins s.number s.rule.now s.arcs.now.arcs s.old js) c.loop-arc.found.items c.extend.new.found.items s.room c.in_ok-extend.field-0) longer c.in_ok-extend.ensures) in

@@ -1,6 +1,6 @@
 use Rattle.std.proofs.Common.{◌-◌, take, length, true}
 use Rattle.qs_pattern.specs.Patterns.{count}
-use Rattle.qs_cascade.specs.Finding.{Finds, GoesOn}
+use Rattle.qs_cascade.specs.working.Finding.{Finds, GoesOn}
 use Rattle.qs_cascade.proofs.search.+extend.Given as goal
 
 abbrev pub decreases-extend : goal.decreases-extend

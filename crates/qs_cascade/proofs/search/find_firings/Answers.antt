@@ -1,13 +1,14 @@
 use Rattle.std.proofs.Common.{◌≡◌, ◌⊎◌, ℕ, ⊎_elim, inl, inr, true, false, List, [], ◌∷◌, ◌++◌, refl, sym, ap, ◌∙◌, subst, arith}
-use Rattle.qs_pattern.specs.Patterns.{count, one_pattern}
+use Rattle.qs_pattern.specs.Patterns.{count}
+use Rattle.qs_pattern.specs.working.Patterns.{one_pattern}
 use Rattle.qs_pattern.specs.Substitutions.{Substitution}
 use Rattle.qs_pattern.specs.Instances.{inst}
 use Rattle.qs_graph.specs.Graphs.{Arc, IsPath}
-use Rattle.qs_cascade.specs.Finding.{Finds, GoesOn, Begins, numbers}
+use Rattle.qs_cascade.specs.working.Finding.{Finds, GoesOn, Begins, numbers}
 use Rattle.qs_cascade.proofs.Findings.{finds_same, finds_stop}
 use Rattle.qs_cascade.proofs.Following.{begins_of, one_more, one_refused, path_and_arc}
 use Rattle.qs_cascade.proofs.Refusing.{refused}
-use Rattle.qs_firing.proofs.Fired.{count-patterns}
+use Rattle.qs_pattern.proofs.PatternLemmas.{count-patterns}
 use Rattle.qs_cascade.proofs.Starting.{numbers-more, numbers-below, goes_on_start}
 use Rattle.qs_cascade.proofs.search.find_firings.Goals as goal
 
@@ -15,10 +16,10 @@ pub extend-requires-clause-path : goal.extend-requires-clause-path
 extend-requires-clause-path c =
     let s = c.args.search.now in
     let k : ℕ = c.loop-arc.arc in
-    let path : c.deref.result.now ≡ k ∷ [] = c.deref.ensures.value ∙ c.in_ok-path.ensures in
+    let path : c.deref-in-loop-arc.result.now ≡ k ∷ [] = c.deref-in-loop-arc.ensures.value ∙ c.in_ok-path.ensures in
     let to = ap (λ (x : Arc). x.to) c.edge.view_is in (
       c.edge-edge.result.now.from,
-      subst (λ (n : ℕ). IsPath s.arcs.now.arcs c.edge-edge.result.now.from c.deref.result.now n) (sym to)
+      subst (λ (n : ℕ). IsPath s.arcs.now.arcs c.edge-edge.result.now.from c.deref-in-loop-arc.result.now n) (sym to)
           (subst (λ (js : List ℕ). IsPath s.arcs.now.arcs c.edge-edge.result.now.from js c.edge-edge.result.now.to) (sym path)
           (path_and_arc s.arcs.now.arcs c.edge-edge.result.now.from [] c.edge-edge.result.now.from k c.edge-edge.result.now refl c.edge-edge.ensures.at refl)),
     )
@@ -28,7 +29,7 @@ loop-arc-preserved-then-refuses c =
     let s = c.args.search.now in
     let k : ℕ = c.loop-arc.arc in
     let least : ℕ = c.least_start-least.result in
-    let tree = c.view.ensures ∙ ap (λ (a : Arc). a.tree) c.edge.view_is in
+    let tree = c.view.ensures ∙ c.deref.ensures ∙ ap (λ (a : Arc). a.tree) c.edge.view_is in
     let never : (r : Substitution) → inst r (one_pattern c.in-Some.pattern.now) ≡ c.edge-edge.result.now.tree ∷ [] → ⊥ =
     λ r e. c.refuses.ensures c.if-refuses.true r (e ∙ ap (λ u. u ∷ []) (sym tree)) in
     let none = refused s.number s.rule.now c.left-left.result.now s.arcs.now.arcs s.old [] k c.edge-edge.result.now c.in-Some.pattern.now
@@ -41,7 +42,7 @@ returns-then-not-branch c =
     let s = c.args.search.now in
     let k : ℕ = c.loop-arc.arc in
     let least : ℕ = c.least_start-least.result in
-    let path : c.deref.result.now ≡ k ∷ [] = c.deref.ensures.value ∙ c.in_ok-path.ensures in
+    let path : c.deref-in-loop-arc.result.now ≡ k ∷ [] = c.deref-in-loop-arc.ensures.value ∙ c.in_ok-path.ensures in
     let next : Finds (Begins s.number s.rule.now s.arcs.now.arcs s.old (k ∷ [])) c.loop-arc.found.items c.extend.new.found.items s.room false =
     subst (λ b. Finds (Begins s.number s.rule.now s.arcs.now.arcs s.old (k ∷ [])) c.loop-arc.found.items c.extend.new.found.items s.room b) c.if-not-branch.true
     (subst (λ (js : List ℕ). Finds (Begins s.number s.rule.now s.arcs.now.arcs s.old js) c.loop-arc.found.items c.extend.new.found.items s.room c.in_ok-extend.field-0) path c.in_ok-extend.ensures) in
@@ -53,7 +54,7 @@ loop-arc-preserved c =
     let s = c.args.search.now in
     let k : ℕ = c.loop-arc.arc in
     let least : ℕ = c.least_start-least.result in
-    let path : c.deref.result.now ≡ k ∷ [] = c.deref.ensures.value ∙ c.in_ok-path.ensures in
+    let path : c.deref-in-loop-arc.result.now ≡ k ∷ [] = c.deref-in-loop-arc.ensures.value ∙ c.in_ok-path.ensures in
     let next : Finds (Begins s.number s.rule.now s.arcs.now.arcs s.old (k ∷ [])) c.loop-arc.found.items c.extend.new.found.items s.room true =
     subst (λ b. Finds (Begins s.number s.rule.now s.arcs.now.arcs s.old (k ∷ [])) c.loop-arc.found.items c.extend.new.found.items s.room b) c.if-not-branch.false
     (subst (λ (js : List ℕ). Finds (Begins s.number s.rule.now s.arcs.now.arcs s.old js) c.loop-arc.found.items c.extend.new.found.items s.room c.in_ok-extend.field-0) path c.in_ok-extend.ensures) in

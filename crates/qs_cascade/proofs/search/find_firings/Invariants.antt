@@ -1,5 +1,5 @@
 use Rattle.std.proofs.Common.{[], true}
-use Rattle.qs_cascade.specs.Finding.{Finds, GoesOn, numbers}
+use Rattle.qs_cascade.specs.working.Finding.{Finds, GoesOn, numbers}
 use Rattle.qs_cascade.proofs.search.find_firings.Given as goal
 
 abbrev pub invariant-loop-arc : goal.invariant-loop-arc

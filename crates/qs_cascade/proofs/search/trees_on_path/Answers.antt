@@ -13,6 +13,6 @@ edge-requires c =
 pub loop-arc-preserved : goal.loop-arc-preserved
 loop-arc-preserved c =
     c.in_ok-push.ensures.ok
-    ∙ ap (λ t. c.loop-arc.trees ++ t ∷ []) (c.view.ensures ∙ ap (λ (a : Arc). a.tree) c.behind-arcs.view_is)
+    ∙ ap (λ t. c.loop-arc.trees ++ t ∷ []) (c.view.ensures ∙ c.deref.ensures ∙ ap (λ (a : Arc). a.tree) c.behind-arcs.view_is)
     ∙ ap (λ ts. ts ++ c.edge.result.now.tree ∷ []) c.loop-arc.invariant
     ∙ sym (trees_on-more c.args.arcs.now.arcs c.args.path.now c.loop-arc.arc-index c.edge.result.now c.loop-arc-test.true c.edge.ensures.at)

@@ -1,7 +1,7 @@
 use Rattle.std.proofs.Common.{arith, ◌≡◌, length, ap, subst}
 use Rattle.qs_canon.specs.Closures.{ClosureOf}
 use Rattle.qs_clean.specs.Cleaning.{IsLeft}
-use Rattle.qs_cascade.specs.Closing.{ClosesOrNeeds}
+use Rattle.qs_cascade.specs.working.Closing.{ClosesOrNeeds}
 use Rattle.qs_cascade.proofs.Leaves.{leaves, left_grows, left_named}
 use Rattle.qs_cascade.proofs.stage.stage_alone.Goals as goal
 

@@ -4,7 +4,8 @@ use Rattle.qs_pattern.specs.declared.variable.Var.{Var}
 use Rattle.qs_pattern.specs.Variables.{firsts}
 use Rattle.qs_pattern.proofs.VariableLemmas.{in_firsts}
 use Rattle.qs_check.specs.Cells.{variables_among}
-use Rattle.qs_check.proofs.Among.{at_place, firsts_same, firsts_new}
+use Rattle.qs_tree.proofs.Members.{at_place}
+use Rattle.qs_check.proofs.Among.{firsts_same, firsts_new}
 use Rattle.qs_check.proofs.causes.first_of_33rd.Goals as goal
 
 pub loop-place-preserved-in_default : goal.loop-place-preserved-in_default

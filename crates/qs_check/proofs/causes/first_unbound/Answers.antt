@@ -3,7 +3,8 @@ use Rattle.std.proofs.lemmas.List.{take_all}
 use Rattle.qs_tree.specs.Lists.{◌∈◌}
 use Rattle.qs_pattern.specs.declared.pattern.Head.{Head}
 use Rattle.qs_check.specs.Cells.{variables_among}
-use Rattle.qs_check.proofs.Among.{at_place, each_more}
+use Rattle.qs_tree.proofs.Members.{at_place}
+use Rattle.qs_check.proofs.Among.{each_more}
 use Rattle.qs_check.proofs.causes.first_unbound.Goals as goal
 
 pub returns-in-Some : goal.returns-in-Some

@@ -1,7 +1,8 @@
 use Rattle.std.proofs.Common.{sym, ◌∙◌, subst}
 use Rattle.qs_tree.specs.Lists.{◌∈◌}
 use Rattle.qs_pattern.specs.declared.variable.Var.{Var}
-use Rattle.qs_check.proofs.Among.{is_member, member_is, only_variable, not_both}
+use Rattle.qs_tree.proofs.Decisions.{true_false}
+use Rattle.qs_check.proofs.Among.{is_member, member_is, only_variable}
 use Rattle.qs_check.proofs.causes.new_variable.Goals as goal
 
 pub returns-then-contains : goal.returns-then-contains
@@ -10,4 +11,4 @@ returns-then-contains c = λ w i.
     (is_member c.in-Var.var c.args.known.now (sym c.contains.ensures.value ∙ c.if-contains.true))
 
 pub returns-else-contains : goal.returns-else-contains
-returns-else-contains c = (c.in-Var.is, λ i. not_both (c.contains.ensures.value ∙ member_is c.in-Var.var c.args.known.now i) c.if-contains.false)
+returns-else-contains c = (c.in-Var.is, λ i. true_false c.if-contains.false (c.contains.ensures.value ∙ member_is c.in-Var.var c.args.known.now i))

@@ -1,7 +1,8 @@
 use Rattle.std.proofs.Common.{◌≡◌, length, take, ap, arith}
 use Rattle.qs_pattern.specs.Patterns.{patterns}
 use Rattle.qs_check.specs.Cells.{written}
-use Rattle.qs_check.proofs.Sides.{count-patterns, has_17th}
+use Rattle.qs_pattern.proofs.PatternLemmas.{count-patterns}
+use Rattle.qs_check.proofs.Sides.{has_17th}
 use Rattle.qs_check.proofs.causes.root_of_17th.Goals as goal
 
 pub returns-then-side-le16 : goal.returns-then-side-le16

@@ -1,5 +1,5 @@
 use Rattle.std.proofs.Common.{◌≡◌, ◌++◌, drop}
-use Rattle.qs_pattern.specs.Conditions.{conditions}
+use Rattle.qs_pattern.specs.working.Conditions.{conditions}
 use Rattle.qs_check.proofs.Written.{written_conditions}
 use Rattle.qs_check.proofs.cells.+add_condition.Given as goal
 

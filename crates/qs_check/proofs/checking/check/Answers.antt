@@ -2,7 +2,7 @@ use Rattle.std.proofs.Common.{length, slice_get, sym, ◌∙◌, ap, arith}
 use Rattle.qs_pattern.specs.Rules.{UnmarkedRule}
 use Rattle.qs_ruletext.specs.WrittenRules.{WrittenRule}
 use Rattle.qs_check.specs.Causes.{IsFirstCause}
-use Rattle.qs_check.proofs.Among.{at_place}
+use Rattle.qs_tree.proofs.Members.{at_place}
 use Rattle.qs_check.proofs.Limits.{some_case, place_within}
 use Rattle.qs_check.proofs.checking.check.Goals as goal
 

@@ -3,8 +3,9 @@ use Rattle.std.proofs.lemmas.List.{length-replicate}
 use Rattle.qs_tree.specs.Lists.{◌∈◌}
 use Rattle.qs_firing.specs.Firings.{Firing}
 use Rattle.qs_canon.specs.Rounds.{Done}
-use Rattle.qs_clean.specs.Links.{IsMarked}
-use Rattle.qs_clean.proofs.LinkSteps.{member_read, written_back}
+use Rattle.qs_clean.specs.working.Links.{IsMarked}
+use Rattle.qs_tree.proofs.Members.{in_read}
+use Rattle.qs_clean.proofs.LinkSteps.{written_back}
 use Rattle.qs_clean.proofs.ArcSteps.{firing_more, none_used}
 use Rattle.qs_clean.proofs.arcs.denoted_arcs.Goals as goal
 
@@ -16,7 +17,7 @@ loop-placed-init c =
 pub mark_path-requires : goal.mark_path-requires
 mark_path-requires c = λ k i.
     let used : k ∈ c.placed-item.result.firing.path = subst (λ (f : Firing). k ∈ f.path) (ap (λ (d : Done). d.firing) c.placed.view_is) i in
-    let low = c.requires c.placed-item.result (member_read c.args.firings.now c.loop-placed.placed-index c.placed-item.result (omega arith) c.placed-item.is) k used in
+    let low = c.requires c.placed-item.result (in_read c.args.firings.now c.loop-placed.placed-index c.placed-item.result (omega arith) c.placed-item.is) k used in
     omega (arith, ap length c.deref_mut.ensures.value, c.loop-placed.invariant.0)
 
 pub loop-placed-preserved : goal.loop-placed-preserved

@@ -1,6 +1,6 @@
 use Rattle.std.proofs.Common.{ℕ, ◌↔◌, ◌≡◌, length, take}
-use Rattle.qs_clean.specs.Links.{IsMarked}
-use Rattle.qs_clean.specs.Steps.{IsUsed}
+use Rattle.qs_clean.specs.working.Links.{IsMarked}
+use Rattle.qs_clean.specs.working.Steps.{IsUsed}
 use Rattle.qs_clean.proofs.arcs.denoted_arcs.Given as goal
 
 abbrev pub invariant-loop-placed : goal.invariant-loop-placed

@@ -1,6 +1,6 @@
 use Rattle.std.proofs.Common.{◌≡◌, ◌++◌, ◌∷◌, [], ◌&&◌, false, get_or, sym, ap, ◌∙◌, arith}
 use Rattle.std.proofs.lemmas.List.{get_or_default}
-use Rattle.qs_clean.specs.Steps.{each_pair, both}
+use Rattle.qs_clean.specs.working.Steps.{each_pair, both}
 use Rattle.qs_clean.proofs.ArcSteps.{pair_more}
 use Rattle.qs_clean.proofs.arcs.in_both.Goals as goal
 use Rattle.qs_clean.proofs.arcs.in_both.Goals.{then-mark, else-mark}

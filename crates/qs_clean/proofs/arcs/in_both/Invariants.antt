@@ -1,5 +1,5 @@
 use Rattle.std.proofs.Common.{◌≡◌, ◌++◌, drop}
-use Rattle.qs_clean.specs.Steps.{each_pair, both}
+use Rattle.qs_clean.specs.working.Steps.{each_pair, both}
 use Rattle.qs_clean.proofs.arcs.in_both.Given as goal
 
 abbrev pub invariant-loop-n : goal.invariant-loop-n

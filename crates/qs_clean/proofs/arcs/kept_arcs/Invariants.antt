@@ -1,5 +1,5 @@
 use Rattle.std.proofs.Common.{◌≡◌, ◌++◌, drop}
-use Rattle.qs_clean.specs.Steps.{each_pair, keeps_mark}
+use Rattle.qs_clean.specs.working.Steps.{each_pair, keeps_mark}
 use Rattle.qs_clean.proofs.arcs.kept_arcs.Given as goal
 
 abbrev pub invariant-loop-k : goal.invariant-loop-k

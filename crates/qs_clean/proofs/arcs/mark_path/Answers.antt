@@ -1,8 +1,8 @@
 use Rattle.std.proofs.Common.{◌≡◌, ℕ, ◌<◌, ◌↔◌, ◌⊎◌, get_or, length, set, true, ◌∙◌, ap, subst, refl, arith}
 use Rattle.qs_tree.specs.Lists.{◌∈◌}
 use Rattle.qs_firing.specs.Firings.{Firing}
-use Rattle.qs_clean.specs.Links.{IsMarked}
-use Rattle.qs_clean.proofs.LinkSteps.{member-get_or}
+use Rattle.qs_clean.specs.working.Links.{IsMarked}
+use Rattle.qs_tree.proofs.Members.{in_get_or}
 use Rattle.qs_clean.proofs.ArcSteps.{path_more, path_all}
 use Rattle.qs_clean.proofs.arcs.mark_path.Goals as goal
 
@@ -10,13 +10,13 @@ pub bounds-marks-arc : goal.bounds-marks-arc
 bounds-marks-arc c =
     let is : c.as_slice-path.result.now ≡ c.args.firing.now.path = c.as_slice-path.ensures.value ∙ ap (λ (f : Firing). f.path) c.firing.view_is in
     let k = get_or c.as_slice-path.result.now c.loop-arc.arc-index 0 in
-    omega (arith, c.requires k (subst (λ ns. k ∈ ns) is (member-get_or c.as_slice-path.result.now c.loop-arc.arc-index 0 (omega arith))))
+    omega (arith, c.requires k (subst (λ ns. k ∈ ns) is (in_get_or c.as_slice-path.result.now c.loop-arc.arc-index 0 (omega arith))))
 
 pub loop-arc-preserved : goal.loop-arc-preserved
 loop-arc-preserved c =
     let is : c.as_slice-path.result.now ≡ c.args.firing.now.path = c.as_slice-path.ensures.value ∙ ap (λ (f : Firing). f.path) c.firing.view_is in
     let k = get_or c.as_slice-path.result.now c.loop-arc.arc-index 0 in
-    let low = c.requires k (subst (λ ns. k ∈ ns) is (member-get_or c.as_slice-path.result.now c.loop-arc.arc-index 0 (omega arith))) in
+    let low = c.requires k (subst (λ ns. k ∈ ns) is (in_get_or c.as_slice-path.result.now c.loop-arc.arc-index 0 (omega arith))) in
     let within : k < length c.loop-arc.marks = omega arith in
     path_more c.as_slice-path.result.now c.loop-arc.arc-index k c.args.marks.now c.loop-arc.marks (set c.loop-arc.marks k true) (omega arith) refl within refl c.loop-arc.invariant
 

@@ -1,6 +1,6 @@
 use Rattle.std.proofs.Common.{ℕ, ◌↔◌, ◌⊎◌, take}
 use Rattle.qs_tree.specs.Lists.{◌∈◌}
-use Rattle.qs_clean.specs.Links.{IsMarked}
+use Rattle.qs_clean.specs.working.Links.{IsMarked}
 use Rattle.qs_clean.proofs.arcs.mark_path.Given as goal
 
 abbrev pub invariant-loop-arc : goal.invariant-loop-arc

@@ -1,5 +1,5 @@
 use Rattle.std.proofs.Common.{◌≡◌, ◌+◌, ◌++◌, drop}
-use Rattle.qs_clean.specs.Steps.{marked, numbering}
+use Rattle.qs_clean.specs.working.Steps.{marked, numbering}
 use Rattle.qs_clean.proofs.arcs.numbered.Given as goal
 
 abbrev pub invariant-loop-mark : goal.invariant-loop-mark

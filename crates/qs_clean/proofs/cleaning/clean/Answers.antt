@@ -2,7 +2,7 @@ use Rattle.std.proofs.Common.{◌≡◌, ◌<◌, [], length, refl, sym, ◌∙�
 use Rattle.qs_graph.specs.Graphs.{QGraph}
 use Rattle.qs_canon.specs.Closures.{ClosureOf}
 use Rattle.qs_canon.specs.contracts.closure.Closure as closure
-use Rattle.qs_clean.specs.Steps.{each_pair, keeps_mark, both, numbering, if_kept, marked, AreMarks}
+use Rattle.qs_clean.specs.working.Steps.{each_pair, keeps_mark, both, numbering, if_kept, marked, AreMarks}
 use Rattle.qs_clean.specs.Cleaning.{IsClosureOfValid, Cleans}
 use Rattle.qs_clean.proofs.Closures.{entry_is, exit_is}
 use Rattle.qs_clean.proofs.Whole.{zero_tested, some_tested, from_in, to_in, kept_bits, left_bits, numbers, new_arcs, kept_len, left_fits, numbers_len, number_read, is_none, is_left, is_kept}

@@ -3,8 +3,8 @@ use Rattle.qs_tree.specs.Lists.{◌∈◌}
 use Rattle.qs_canon.specs.Rounds.{Done}
 use Rattle.qs_canon.specs.Closures.{ClosureOf}
 use Rattle.qs_canon.specs.contracts.closure.Closure as closure
-use Rattle.qs_clean.specs.Links.{turned}
-use Rattle.qs_clean.specs.Steps.{each_pair, free_link, AreMarks}
+use Rattle.qs_clean.specs.working.Links.{turned}
+use Rattle.qs_clean.specs.working.Steps.{each_pair, free_link, AreMarks}
 use Rattle.qs_clean.specs.Cleaning.{IsClosureOfValid}
 use Rattle.qs_clean.proofs.Closures.{entry_is, exit_is, path_within, links_in, turned_in}
 use Rattle.qs_clean.proofs.Whole.{marks_are}

@@ -1,6 +1,6 @@
 use Rattle.std.proofs.Common.{◌+◌, ◌++◌, ◌∷◌, [], map, ap, sym, subst, ◌∙◌, length}
 use Rattle.std.proofs.lemmas.List.{map_push, length_push}
-use Rattle.qs_clean.specs.Links.{AreGroups}
+use Rattle.qs_clean.specs.working.Links.{AreGroups}
 use Rattle.qs_clean.proofs.LinkSteps.{items_of}
 use Rattle.qs_clean.proofs.Grouping.{empty_group, no_groups}
 use Rattle.qs_clean.proofs.links.empty_groups.Goals as goal

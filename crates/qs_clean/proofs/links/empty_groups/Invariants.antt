@@ -1,5 +1,5 @@
 use Rattle.std.proofs.Common.{◌≡◌, [], length, map}
-use Rattle.qs_clean.specs.Links.{AreGroups}
+use Rattle.qs_clean.specs.working.Links.{AreGroups}
 use Rattle.qs_clean.proofs.links.empty_groups.Given as goal
 
 abbrev pub invariant-loop-node : goal.invariant-loop-node

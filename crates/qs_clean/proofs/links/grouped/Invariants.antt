@@ -1,5 +1,5 @@
 use Rattle.std.proofs.Common.{◌≡◌, ◌+◌, length, map, take}
-use Rattle.qs_clean.specs.Links.{AreGroups}
+use Rattle.qs_clean.specs.working.Links.{AreGroups}
 use Rattle.qs_clean.proofs.links.grouped.Given as goal
 
 abbrev pub invariant-loop-link : goal.invariant-loop-link

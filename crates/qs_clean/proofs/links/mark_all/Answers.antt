@@ -1,21 +1,22 @@
 use Rattle.std.proofs.Common.{◌≡◌, ◌<◌, true, false, [], ◌∷◌, ◌++◌, get_or, length, refl, arith}
-use Rattle.qs_clean.proofs.LinkSteps.{member-get_or, mark_new, mark_old}
+use Rattle.qs_tree.proofs.Members.{in_get_or}
+use Rattle.qs_clean.proofs.LinkSteps.{mark_new, mark_old}
 use Rattle.qs_clean.proofs.links.mark_all.Goals as goal
 use Rattle.qs_clean.proofs.links.mark_all.Goals.{then-not-marks-target+in_ok-push, else-not-marks-target}
 
 pub bounds-marks-target : goal.bounds-marks-target
 bounds-marks-target c =
-    omega (arith, c.requires _ (member-get_or c.args.targets.now c.loop-target.target-index 0 (omega arith)))
+    omega (arith, c.requires _ (in_get_or c.args.targets.now c.loop-target.target-index 0 (omega arith)))
 
 pub bounds-marks-target-then-not-marks-target : goal.bounds-marks-target-then-not-marks-target
 bounds-marks-target-then-not-marks-target c =
-    omega (arith, c.requires _ (member-get_or c.args.targets.now c.loop-target.target-index 0 (omega arith)))
+    omega (arith, c.requires _ (in_get_or c.args.targets.now c.loop-target.target-index 0 (omega arith)))
 
 pub loop-target-preserved : goal.loop-target-preserved
 loop-target-preserved c =
     let t = get_or c.args.targets.now c.loop-target.target-index 0 in
     let here : c.loop-target.target-index < length c.args.targets.now = omega arith in
-    let within : get_or c.args.targets.now c.loop-target.target-index 0 < length c.loop-target.marks = omega (arith, c.requires _ (member-get_or c.args.targets.now c.loop-target.target-index 0 (omega arith))) in
+    let within : get_or c.args.targets.now c.loop-target.target-index 0 < length c.loop-target.marks = omega (arith, c.requires _ (in_get_or c.args.targets.now c.loop-target.target-index 0 (omega arith))) in
     elim c.if-not-marks-target.branch [
       | then-not-marks-target+in_ok-push w ↦
           (let free : get_or c.loop-target.marks (get_or c.args.targets.now c.loop-target.target-index 0) false ≡ false = (let h = w.if-not-marks-target.true in cc) in

@@ -1,5 +1,5 @@
 use Rattle.std.proofs.Common.{take}
-use Rattle.qs_clean.specs.Links.{AreMarked}
+use Rattle.qs_clean.specs.working.Links.{AreMarked}
 use Rattle.qs_clean.proofs.links.mark_all.Given as goal
 
 abbrev pub invariant-loop-target : goal.invariant-loop-target

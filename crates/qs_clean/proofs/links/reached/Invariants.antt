@@ -1,5 +1,5 @@
 use Rattle.std.proofs.Common.{◌≡◌, ◌+◌, length}
-use Rattle.qs_clean.specs.Links.{unmarked}
+use Rattle.qs_clean.specs.working.Links.{unmarked}
 use Rattle.qs_clean.proofs.Exploring.{IsExploring}
 use Rattle.qs_clean.proofs.links.reached.Given as goal
 

@@ -1,26 +1,47 @@
-use Rattle.std.proofs.Common.{length, sym, ◌∙◌, subst, ap, arith}
-use Rattle.qs_lex.specs.declared.refusal.Cause.TheVariants.{TooDeep, Syntax}
-use Rattle.qs_deck.specs.Refusals.{byte_of, IsFault, nesting, syntax}
-use Rattle.qs_deck.specs.Syntax.{EndsAt}
-use Rattle.qs_deck.proofs.Borders.{few_tokens}
-use Rattle.qs_deck.proofs.Meanings.{refused}
+use Rattle.std.proofs.Common.{length, sym, subst}
+use Rattle.qs_graph.specs.Graphs.{QGraph}
+use Rattle.qs_graphtext.specs.Texts.{AreArcsNamed}
+use Rattle.qs_deck.specs.Decks.{IsWritten}
+use Rattle.qs_deck.specs.Answers.{end_of_check, IsEndOf}
+use Rattle.qs_deck.proofs.Meanings as meaning
+use Rattle.qs_deck.proofs.Tables.{hands_on}
 use Rattle.qs_deck.proofs.decks.deck_of_tokens.Goals as goal
 
-pub returns-in-Some-clause-end : goal.returns-in-Some-clause-end
-returns-in-Some-clause-end c =
-    refused c.args.text.now c.byte_of-byte.result TooDeep c.refusal.result
-    (subst (λ place. IsFault c.args.text.now place TooDeep) (sym c.byte_of-byte.ensures.value)
-    (nesting c.args.tokens.now c.in-Some.index c.requires.utf8 c.requires.of_text (record { deep = c.in-Some.ensures.some; first = c.in-Some.ensures.first })))
-    c.refusal.ensures
+pub checked-requires-clause-can : goal.checked-requires-clause-can
+checked-requires-clause-can c =
+    meaning.can c.args.text.now c.in_ok-names.names _ (subst (IsWritten c.args.text.now c.in_ok-names.names) (sym c.deck.view_is) c.in_ok-names.ensures.written)
 
-pub read_written-requires-clause-room : goal.read_written-requires-clause-room
-read_written-requires-clause-room c =
-    omega (arith, few_tokens c.args.text.now 0 c.args.tokens.now c.requires.spans (omega (arith)), c.requires.short, ap length c.new-names.ensures)
+pub checked-requires-clause-few : goal.checked-requires-clause-few
+checked-requires-clause-few c =
+    meaning.few c.args.text.now c.in_ok-names.names _ (subst (IsWritten c.args.text.now c.in_ok-names.names) (sym c.deck.view_is) c.in_ok-names.ensures.written) c.requires.short
 
-pub returns-in-Err-Syntax-clause-end : goal.returns-in-Err-Syntax-clause-end
-returns-in-Err-Syntax-clause-end c =
-    refused c.args.text.now c.byte_of-byte-in-Err-Syntax.result Syntax c.refusal-in-Err-Syntax.result
-    (subst (λ place. IsFault c.args.text.now place Syntax) (sym (c.byte_of-byte-in-Err-Syntax.ensures.value ∙ ap (byte_of c.args.text.now c.args.tokens.now) c.in-Err-Syntax.index-is))
-    (syntax c.args.tokens.now c.in-Err-Syntax.index (record { utf8 = c.requires.utf8; are_tokens = c.requires.of_text; shallow = c.in_default.ensures.none })
-    (subst (EndsAt c.args.tokens.now) c.in-Err-Syntax.field-0-is c.in-Err-Syntax.ensures.ends)))
-    c.refusal-in-Err-Syntax.ensures
+pub returns-in_err-systems-clause-end : goal.returns-in_err-systems-clause-end
+returns-in_err-systems-clause-end c =
+    let written = subst (IsWritten c.args.text.now c.in_ok-names.names) (sym c.deck.view_is) c.in_ok-names.ensures.written in
+    hands_on c.from_residual-in_err-systems.result (end_of_check c.in_err-systems.field-0.0) (IsEndOf c.args.text.now) c.from_residual-in_err-systems.ensures.1
+    (meaning.check_end_of c.args.text.now c.in_ok-names.names _ written c.in_err-systems.field-0.0 c.in_err-systems.ensures.refused)
+
+pub graph_of-requires-clause-some : goal.graph_of-requires-clause-some
+graph_of-requires-clause-some c =
+    meaning.chains_some c.args.text.now c.in_ok-names.names _ (subst (IsWritten c.args.text.now c.in_ok-names.names) (sym c.deck.view_is) c.in_ok-names.ensures.written)
+
+pub graph_of-requires-clause-whole : goal.graph_of-requires-clause-whole
+graph_of-requires-clause-whole c =
+    meaning.chains_whole c.args.text.now c.in_ok-names.names _ (subst (IsWritten c.args.text.now c.in_ok-names.names) (sym c.deck.view_is) c.in_ok-names.ensures.written)
+
+pub invariant_of-result : goal.invariant_of-result
+invariant_of-result c =
+    let written = subst (IsWritten c.args.text.now c.in_ok-names.names) (sym c.deck.view_is) c.in_ok-names.ensures.written in
+    record {
+      systems_named = meaning.grammars_named c.args.text.now c.in_ok-names.names _ written c.in_ok-systems.systems.items c.in_ok-systems.ensures.systems;
+      graph_named =
+          subst (λ (G : QGraph). AreArcsNamed (length c.in_ok-names.names) G.arcs) (sym c.in-Ok.ensures.graph)
+          (meaning.arcs_named c.args.text.now c.in_ok-names.names _ written);
+    }
+
+pub returns-in-Err-clause-end : goal.returns-in-Err-clause-end
+returns-in-Err-clause-end c =
+    let written = subst (IsWritten c.args.text.now c.in_ok-names.names) (sym c.deck.view_is) c.in_ok-names.ensures.written in
+    subst (IsEndOf c.args.text.now) (sym c.graph_end.ensures)
+    (meaning.graph_end_of c.args.text.now c.in_ok-names.names _ written (record { few = c.in_ok-systems.ensures.few; accepted = c.in_ok-systems.ensures.accepted })
+    c.in-Err.end c.in-Err.ensures.refused)

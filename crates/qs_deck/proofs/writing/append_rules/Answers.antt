@@ -1,10 +1,10 @@
 use Rattle.qs_tree.proofs.Kept.{kept-further, on_err}
-use Rattle.qs_graph.proofs.Lowering.{member_read}
+use Rattle.qs_tree.proofs.Members.{in_read}
 use Rattle.qs_graphtext.proofs.Written.{begins}
 use Rattle.qs_deck.proofs.writing.append_rules.Goals as goal
 
 pub append_rule-requires : goal.append_rule-requires
-append_rule-requires c = c.requires c.rule-item.result (member_read c.args.rules.now c.loop-rule.rule-index c.rule-item.result c.loop-rule-test.true c.rule-item.is)
+append_rule-requires c = c.requires c.rule-item.result (in_read c.args.rules.now c.loop-rule.rule-index c.rule-item.result c.loop-rule-test.true c.rule-item.is)
 
 pub returns-in_err-append_rule-clause-err : goal.returns-in_err-append_rule-clause-err
 returns-in_err-append_rule-clause-err c =

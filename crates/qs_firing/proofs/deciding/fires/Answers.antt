@@ -1,9 +1,12 @@
 use Rattle.std.proofs.Common.{◌≡◌, ℕ, List, length, Some, slice_get, arith, sym, ◌∙◌, ap, subst}
 use Rattle.std.proofs.lemmas.Result.{IfOk-weaker}
+use Rattle.qs_tree.proofs.Decisions.{true_false}
+use Rattle.qs_tree.proofs.Members.{at_place}
 use Rattle.qs_pattern.specs.Patterns.{count}
+use Rattle.qs_pattern.proofs.PatternLemmas.{count-patterns}
 use Rattle.qs_graph.specs.Graphs.{IsPath, trees_on}
 use Rattle.qs_firing.specs.Firings.{Firing}
-use Rattle.qs_firing.proofs.Fired.{at_place, by_rule, fires-by_rule, count-patterns, same_match, not_both}
+use Rattle.qs_firing.proofs.Fired.{by_rule, fires-by_rule, same_match}
 use Rattle.qs_firing.proofs.deciding.fires.Goals as goal
 use Rattle.qs_firing.proofs.deciding.fires.Goals.{then-len-left-via-then-len-left, then-len-left-via-else-len-left+then-not-is_path}
 
@@ -21,7 +24,7 @@ returns-then-len-left c =
             | then-len-left-via-then-len-left w ↦ w.if-len-left.true (omega (arith, by.long, c.len.ensures, c.firing.inside.path.ok.0, count-patterns c.left.result.now, count_is))
             | then-len-left-via-else-len-left+then-not-is_path w ↦
                 let here : (a : ℕ) × (b : ℕ) × IsPath arcs a w.deref.result.now b = subst (λ (ks : List ℕ). (a : ℕ) × (b : ℕ) × IsPath arcs a ks b) (sym w.deref.ensures.value) by.path in
-                not_both (w.is_path.ensures.1 here) w.if-not-is_path.true
+                true_false w.if-not-is_path.true (w.is_path.ensures.1 here)
           ]),
     )
 
@@ -35,7 +38,7 @@ returns-then-not-branch c =
     let trees = c.view.ensures ∙ c.in_ok-trees.ensures ∙ ap (trees_on arcs) c.deref-2.ensures.value in (
       λ t. absurd cc,
       λ r. let by = by_rule rules arcs f c.args.firing.now c.firing.view_is rule is r in
-          absurd (not_both (c.in_ok-is_match.ensures.1 (same_match rule.left _ (trees_on arcs f.path) _ f.values (sym c.left-2.ensures.value) (sym trees) by.matches)) c.if-not-branch.true),
+          absurd (true_false c.if-not-branch.true (c.in_ok-is_match.ensures.1 (same_match rule.left _ (trees_on arcs f.path) _ f.values (sym c.left-2.ensures.value) (sym trees) by.matches))),
     )
 
 pub returns : goal.returns

@@ -10,7 +10,7 @@ loop-arc-preserved c =
     let arcs = c.args.view.now in
     elim c.match-arc_at.branch [
       | in-Some+in_ok-push w ↦
-          let tree = w.view.ensures ∙ ap (λ (a : Arc). a.tree) w.edge.view_is in
+          let tree = w.view.ensures ∙ w.deref.ensures ∙ ap (λ (a : Arc). a.tree) w.edge.view_is in
           one_tree_more arcs c.args.path.now c.loop-arc.arc-index c.loop-arc-test.true c.loop-arc.trees c.loop-arc.invariant w.in-Some.edge.now c.match-arc_at.trees
           (sym c.arc_at.ensures ∙ ap option_copied w.in-Some.is)
           (w.trees-is ∙ w.in_ok-push.ensures.ok ∙ ap (λ t. c.loop-arc.trees ++ t ∷ []) tree)

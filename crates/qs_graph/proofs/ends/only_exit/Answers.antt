@@ -2,7 +2,7 @@ use Rattle.std.proofs.Common.{◌≤◌, ◌↔◌, sym, subst, ◌∙◌}
 use Rattle.qs_tree.specs.Lists.{◌∈◌}
 use Rattle.qs_tree.proofs.Members.{from_map}
 use Rattle.qs_graph.specs.Graphs.{Arc, IsExit}
-use Rattle.qs_graph.specs.Orders.{IsOutside}
+use Rattle.qs_graph.specs.working.Orders.{IsOutside}
 use Rattle.qs_graph.proofs.Endpoints.{only_ok, outside_exit}
 use Rattle.qs_graph.proofs.ends.only_exit.Goals as goal
 

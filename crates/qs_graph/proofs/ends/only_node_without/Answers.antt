@@ -1,5 +1,5 @@
 use Rattle.std.proofs.Common.{length, get_or, ◌∙◌, ap}
-use Rattle.qs_graph.specs.Orders.{IsOutside}
+use Rattle.qs_graph.specs.working.Orders.{IsOutside}
 use Rattle.qs_graph.proofs.Numbers.{zeros_outside, only_is}
 use Rattle.qs_graph.proofs.ends.only_node_without.Goals as goal
 

@@ -1,5 +1,5 @@
 use Rattle.std.proofs.Common.{◌≡◌, ◌+◌, ℕ, length, take, get_or}
-use Rattle.qs_graph.specs.Orders.{times}
+use Rattle.qs_graph.specs.working.Orders.{times}
 use Rattle.qs_graph.proofs.ends.tally.Given as goal
 
 -- the counts are those of the numbers so far

@@ -1,6 +1,6 @@
 use Rattle.std.proofs.Common.{◌≡◌, ◌↔◌, ◌<◌, ◌≤◌, ℕ, get_or}
 use Rattle.qs_tree.specs.Lists.{◌∈◌}
-use Rattle.qs_graph.specs.Orders.{AreApart}
+use Rattle.qs_graph.specs.working.Orders.{AreApart}
 use Rattle.qs_graph.proofs.ends.uncounted.Given as goal
 
 -- the numbers so far whose count is 0

@@ -1,5 +1,5 @@
 use Rattle.std.proofs.Common.{◌≡◌, ◌+◌, ℕ, [], length, map, take, get_or}
-use Rattle.qs_graph.specs.Orders.{targets_from}
+use Rattle.qs_graph.specs.working.Orders.{targets_from}
 use Rattle.qs_graph.proofs.order.grouped.Given as goal
 
 -- the groups are those of the arcs so far

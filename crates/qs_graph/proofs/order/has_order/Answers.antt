@@ -3,7 +3,7 @@ use Rattle.std.proofs.lemmas.List.{take_at, get_or_read}
 use Rattle.qs_tree.specs.Lists.{◌∈◌}
 use Rattle.qs_tree.proofs.Members.{from_map}
 use Rattle.qs_graph.specs.Graphs.{Arc}
-use Rattle.qs_graph.specs.Orders.{targets_from, IsLowered}
+use Rattle.qs_graph.specs.working.Orders.{targets_from, IsLowered}
 use Rattle.qs_graph.proofs.Taking.{taking_first, next_node, can_lower, taking_next, no_cycle, cycle_left}
 use Rattle.qs_graph.proofs.Lowering.{group_read}
 use Rattle.qs_graph.proofs.order.has_order.Goals as goal

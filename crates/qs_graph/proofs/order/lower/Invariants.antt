@@ -1,5 +1,5 @@
 use Rattle.std.proofs.Common.{take}
-use Rattle.qs_graph.specs.Orders.{IsLowered}
+use Rattle.qs_graph.specs.working.Orders.{IsLowered}
 use Rattle.qs_graph.proofs.order.lower.Given as goal
 
 abbrev pub invariant-loop-target : goal.invariant-loop-target

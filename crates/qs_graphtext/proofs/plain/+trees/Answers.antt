@@ -1,6 +1,7 @@
 use Rattle.std.proofs.Common.{refl, sym, ◌∙◌, [], ◌∷◌, arith, append-nil}
 use Rattle.qs_lex.specs.Grammar.{opening, comma, one, part, ◌·◌}
-use Rattle.qs_tree.specs.Trees.{no_tree, first_tree, join}
+use Rattle.qs_tree.specs.Trees.{no_tree, first_tree}
+use Rattle.qs_tree.specs.working.Trees.{join}
 use Rattle.qs_ruletext.proofs.Naming.{sign_names}
 use Rattle.qs_graphtext.specs.Grammar.{plain}
 use Rattle.qs_graphtext.specs.Readers.{Ends, plains_with, in_parentheses}

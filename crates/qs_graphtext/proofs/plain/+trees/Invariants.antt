@@ -1,7 +1,8 @@
 use Rattle.std.proofs.Common.{◌≡◌, ◌+◌, ◌*◌, ◌++◌, [], ◌∷◌, List, length}
 use Rattle.qs_lex.specs.declared.token.Token.{Token}
 use Rattle.qs_lex.specs.Grammar.{opening, comma, one, part, ◌·◌}
-use Rattle.qs_tree.specs.Trees.{Forest, join}
+use Rattle.qs_tree.specs.Trees.{Forest}
+use Rattle.qs_tree.specs.working.Trees.{join}
 use Rattle.qs_tree.specs.Cells.{cells_of}
 use Rattle.qs_graphtext.specs.Grammar.{plain}
 use Rattle.qs_graphtext.specs.Reading.{ReadsPlains, ReadsMorePlains}

@@ -17,7 +17,7 @@ pub returns-clause-ok : goal.returns-clause-ok
 returns-clause-ok c =
     let from = ap (λ (x : Arc). node_mark x.from) c.arc.view_is in
     let to = ap (λ (x : Arc). node_mark x.to) c.arc.view_is in
-    let tree = c.view.ensures ∙ ap (λ (x : Arc). x.tree) c.arc.view_is in
+    let tree = c.view.ensures ∙ c.deref.ensures ∙ ap (λ (x : Arc). x.tree) c.arc.view_is in
     arc_done c.args.out.now.items c.append_mark.new.out.items c.extend_from_slice.new.self.items c.write_tree.new.out.items c.extend_from_slice-2.new.self.items
     (node_mark c.args.arc.now.from) (tree_text c.args.names.now c.args.arc.now.tree) (node_mark c.args.arc.now.to)
     (c.in_ok-append_mark.ensures.ok ∙ ap (λ m. c.args.out.now.items ++ m) from) c.in_ok-extend_from_slice.ensures.items

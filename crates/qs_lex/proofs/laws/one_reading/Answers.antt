@@ -1,4 +1,5 @@
 use Rattle.qs_lex.proofs.Readings as readings
+use Rattle.qs_lex.proofs.Refusing.{one_refusal}
 use Rattle.qs_lex.proofs.Totality.{a_reading}
 use Rattle.qs_lex.proofs.laws.one_reading.Goals as goal
 
@@ -18,4 +19,4 @@ pub returns-clause-some : goal.returns-clause-some
 returns-clause-some c = a_reading
 
 pub returns-clause-refusal : goal.returns-clause-refusal
-returns-clause-refusal c = λ text r s a b. readings.one_refusal a b
+returns-clause-refusal c = λ text r s a b. one_refusal (λ p q b d f g. readings.one_fault f g) a b

@@ -1,5 +1,5 @@
 use Rattle.std.proofs.Common.{◌+◌, Ok, Err, arith, refl}
-use Rattle.qs_lex.specs.Scan.{scan}
+use Rattle.qs_lex.specs.working.Scan.{scan}
 use Rattle.qs_lex.specs.Tokens.{StandsIn}
 use Rattle.qs_lex.proofs.Lexed.{none_stands, of_rest}
 use Rattle.qs_lex.proofs.Standing.{stands, has_byte}

@@ -1,5 +1,5 @@
 use Rattle.std.proofs.Common.{◌≡◌, ◌≤◌, drop}
-use Rattle.qs_lex.specs.Scan.{number_after}
+use Rattle.qs_lex.specs.working.Scan.{number_after}
 use Rattle.qs_lex.proofs.scanner.number.Given as goal
 
 abbrev pub invariant-loop-byte : goal.invariant-loop-byte

@@ -1,5 +1,5 @@
 use Rattle.std.proofs.Common.{◌≡◌, drop}
-use Rattle.qs_lex.specs.Scan.{quote_len}
+use Rattle.qs_lex.specs.working.Scan.{quote_len}
 use Rattle.qs_lex.proofs.Quotes.{further, quote_from}
 use Rattle.qs_lex.proofs.scanner.quote_len.Given as goal
 

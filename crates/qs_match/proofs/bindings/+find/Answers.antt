@@ -1,7 +1,7 @@
 use Rattle.std.proofs.Common.{true, false, [], ◌∷◌, sym, ap, ◌∙◌}
 use Rattle.qs_pattern.specs.Substitutions.{value_of}
 use Rattle.qs_pattern.specs.Substitutions.{Substitution}
-use Rattle.qs_match.specs.Bindings.{value_of_ref, substitution_of}
+use Rattle.qs_match.specs.working.Bindings.{value_of_ref, substitution_of}
 use Rattle.qs_match.proofs.Variants.{substitution-More}
 use Rattle.qs_match.proofs.Values.{value_of-append, value_of-last}
 use Rattle.qs_match.proofs.bindings.+find.Goals as goal

@@ -1,7 +1,7 @@
 use Rattle.std.proofs.Common.{rules, sym, ap, ◌∙◌, subst}
 use Rattle.qs_pattern.specs.Substitutions.{value_of, IsOfClass}
 use Rattle.qs_match.specs.declared.bindings.Bindings.TheFolds.{the_lemmas}
-use Rattle.qs_match.specs.Bindings.{substitution_of}
+use Rattle.qs_match.specs.working.Bindings.{substitution_of}
 use Rattle.qs_match.proofs.Variants.{substitution-More}
 use Rattle.qs_match.proofs.Substitutions.{substitution_ends}
 use Rattle.qs_match.proofs.bindings.+subst_of.Goals as goal

@@ -1,7 +1,7 @@
 use Rattle.std.proofs.Common.{◌≡◌, sym, ◌∙◌, eq-eqb, length, arith}
 use Rattle.std.proofs.lemmas.Bool.{eqb-true, leb-true, le-leb}
 use Rattle.qs_pattern.specs.Patterns.{patterns}
-use Rattle.qs_match.specs.Counts.{singles}
+use Rattle.qs_match.specs.working.Counts.{singles}
 use Rattle.qs_match.proofs.Sides.{fit_all, fit_all-is, fit_some}
 use Rattle.qs_match.proofs.counts.can_fit.Goals as goal
 

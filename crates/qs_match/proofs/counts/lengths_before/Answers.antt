@@ -1,6 +1,6 @@
 use Rattle.std.proofs.Common.{◌≡◌, sym, ◌∙◌, length, arith}
 use Rattle.qs_pattern.specs.Patterns.{patterns}
-use Rattle.qs_match.specs.Counts.{singles}
+use Rattle.qs_match.specs.working.Counts.{singles}
 use Rattle.qs_match.proofs.Sides.{fit_all-is}
 use Rattle.qs_match.proofs.counts.lengths_before.Goals as goal
 

@@ -2,7 +2,7 @@ use Rattle.std.proofs.Common.{refl, length, arith}
 use Rattle.qs_tree.specs.Cells.{trees_of}
 use Rattle.qs_pattern.specs.Patterns.{patterns}
 use Rattle.qs_pattern.specs.Instances.{inst}
-use Rattle.qs_match.specs.Bindings.{substitution_of}
+use Rattle.qs_match.specs.working.Bindings.{substitution_of}
 use Rattle.qs_match.proofs.Covered.{front_joins, rest_fits, known_front}
 use Rattle.qs_match.proofs.counts.lengths_of.Goals as goal
 

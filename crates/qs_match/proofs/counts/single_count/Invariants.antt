@@ -1,6 +1,6 @@
 use Rattle.std.proofs.Common.{◌≡◌, ◌+◌, drop}
 use Rattle.qs_pattern.specs.Patterns.{patterns}
-use Rattle.qs_match.specs.Counts.{singles}
+use Rattle.qs_match.specs.working.Counts.{singles}
 use Rattle.qs_match.proofs.counts.single_count.Given as goal
 
 abbrev pub invariant-loop-pattern : goal.invariant-loop-pattern

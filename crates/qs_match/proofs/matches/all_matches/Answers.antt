@@ -1,7 +1,7 @@
 use Rattle.qs_tree.specs.Cells.{trees_of}
 use Rattle.qs_pattern.specs.Patterns.{patterns}
 use Rattle.qs_pattern.specs.Instances.{IsMatch}
-use Rattle.qs_match.specs.Tasks.{Lists}
+use Rattle.qs_match.specs.working.Tasks.{Lists}
 use Rattle.qs_match.proofs.Variants.{tasks-Nothing, substitution-Nothing}
 use Rattle.qs_match.proofs.Variables.{found_matches, no_matches}
 use Rattle.qs_match.proofs.matches.all_matches.Goals as goal

@@ -1,6 +1,7 @@
 use Rattle.std.proofs.Common.{◌∙◌, ap, sym, map}
 use Rattle.std.proofs.lemmas.List.{take_all}
-use Rattle.qs_pattern.specs.Conditions.{condition_of, conditions, all, any, combined}
+use Rattle.qs_pattern.specs.Conditions.{condition_of, all, any, combined}
+use Rattle.qs_pattern.specs.working.Conditions.{conditions}
 use Rattle.qs_pattern.proofs.ConditionLemmas.{condition-All, condition-Any, conditions_from_map}
 use Rattle.qs_pattern.proofs.copies.+copy_condition.Goals as goal
 

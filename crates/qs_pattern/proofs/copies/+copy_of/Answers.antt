@@ -1,6 +1,7 @@
 use Rattle.std.proofs.Common.{◌∙◌, ap, sym, map}
 use Rattle.std.proofs.lemmas.List.{take_all}
-use Rattle.qs_pattern.specs.Patterns.{one_pattern, no_pattern, node_first}
+use Rattle.qs_pattern.specs.Patterns.{no_pattern, node_first}
+use Rattle.qs_pattern.specs.working.Patterns.{one_pattern}
 use Rattle.qs_pattern.proofs.PatternLemmas.{pattern-Node, patterns_from_map}
 use Rattle.qs_pattern.proofs.copies.+copy_of.Goals as goal
 

@@ -1,5 +1,5 @@
 use Rattle.std.proofs.Common.{◌≡◌, map, take}
-use Rattle.qs_pattern.specs.Patterns.{one_pattern}
+use Rattle.qs_pattern.specs.working.Patterns.{one_pattern}
 use Rattle.qs_pattern.proofs.copies.+copy_of.Given as goal
 
 abbrev pub invariant-loop-kid : goal.invariant-loop-kid

@@ -1,6 +1,6 @@
 use Rattle.std.proofs.Common.{◌∙◌, ap, map}
 use Rattle.std.proofs.lemmas.List.{take_all}
-use Rattle.qs_pattern.specs.Patterns.{one_pattern}
+use Rattle.qs_pattern.specs.working.Patterns.{one_pattern}
 use Rattle.qs_pattern.proofs.PatternLemmas.{patterns_from_map}
 use Rattle.qs_pattern.proofs.copies.copies_of.Goals as goal
 

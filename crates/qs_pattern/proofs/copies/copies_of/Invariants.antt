@@ -1,5 +1,5 @@
 use Rattle.std.proofs.Common.{◌≡◌, map, take}
-use Rattle.qs_pattern.specs.Patterns.{one_pattern}
+use Rattle.qs_pattern.specs.working.Patterns.{one_pattern}
 use Rattle.qs_pattern.proofs.copies.copies_of.Given as goal
 
 abbrev pub invariant-loop-pattern : goal.invariant-loop-pattern

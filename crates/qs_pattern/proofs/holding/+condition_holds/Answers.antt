@@ -1,7 +1,8 @@
 use Rattle.std.proofs.Common.{◌↔◌, ◌∙◌, IsTrue, IfOk, ap, sym, subst, rules}
 use Rattle.qs_pattern.specs.declared.condition.Cond.TheFolds.{the_lemmas}
 use Rattle.qs_pattern.specs.Patterns.{patterns}
-use Rattle.qs_pattern.specs.Conditions.{within, outside, all, any, compared, combined, condition_of, conditions, Holds, IsConditionCovered}
+use Rattle.qs_pattern.specs.Conditions.{within, outside, all, any, compared, combined, condition_of, Holds, IsConditionCovered}
+use Rattle.qs_pattern.specs.working.Conditions.{conditions}
 use Rattle.qs_pattern.proofs.ConditionLemmas.{condition-All, condition-Any}
 use Rattle.qs_pattern.proofs.holding.+condition_holds.Goals as goal
 

@@ -1,5 +1,6 @@
 use Rattle.std.proofs.Common.{◌↔◌, drop}
-use Rattle.qs_pattern.specs.Conditions.{conditions, AllHold, SomeHolds, AreConditionsCovered}
+use Rattle.qs_pattern.specs.Conditions.{AllHold, SomeHolds}
+use Rattle.qs_pattern.specs.working.Conditions.{conditions, AreConditionsCovered}
 use Rattle.qs_pattern.proofs.holding.+condition_holds.Given as goal
 
 abbrev pub invariant-all_hold-loop-member : goal.invariant-all_hold-loop-member

@@ -1,6 +1,7 @@
 use Rattle.std.proofs.Common.{◌≤◌, sym, ap, ◌∙◌, length, arith}
 use Rattle.std.proofs.lemmas.Bool.Decides.{nat_tests}
-use Rattle.qs_pattern.specs.Conditions.{any, combined, condition_of, conditions}
+use Rattle.qs_pattern.specs.Conditions.{any, combined, condition_of}
+use Rattle.qs_pattern.specs.working.Conditions.{conditions}
 use Rattle.qs_pattern.proofs.ConditionLemmas.{condition-Any}
 use Rattle.qs_ruletext.proofs.ConditionSteps.{any_of_several}
 use Rattle.qs_ruletext.proofs.conditions.first_or_any.Goals as goal

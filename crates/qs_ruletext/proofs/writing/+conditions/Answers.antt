@@ -1,7 +1,7 @@
 use Rattle.std.proofs.Common.{◌++◌, ap, ◌∙◌, sym, subst, append-nil, refl, length}
 use Rattle.qs_tree.proofs.Kept.{kept-append, kept-further, on_err}
-use Rattle.qs_pattern.specs.Conditions.{conditions}
-use Rattle.qs_pattern.specs.Named.{AreConditionsNamed}
+use Rattle.qs_pattern.specs.working.Conditions.{conditions}
+use Rattle.qs_pattern.specs.working.Named.{AreConditionsNamed}
 use Rattle.qs_ruletext.specs.Texts.{joined, member_texts}
 use Rattle.qs_ruletext.proofs.PatternTexts.{kept_first}
 use Rattle.qs_ruletext.proofs.ConditionTexts.{begun_all, begun_done, members_named, members_text, err_further}

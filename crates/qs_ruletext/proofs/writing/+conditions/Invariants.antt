@@ -1,6 +1,6 @@
 use Rattle.std.proofs.Common.{◌≡◌, ◌++◌, [], length, take, drop}
-use Rattle.qs_pattern.specs.Conditions.{conditions}
-use Rattle.qs_pattern.specs.Named.{AreConditionsNamed}
+use Rattle.qs_pattern.specs.working.Conditions.{conditions}
+use Rattle.qs_pattern.specs.working.Named.{AreConditionsNamed}
 use Rattle.qs_ruletext.specs.Texts.{member_texts}
 use Rattle.qs_ruletext.proofs.ConditionTexts.{begun}
 use Rattle.qs_ruletext.proofs.writing.+conditions.Given as goal

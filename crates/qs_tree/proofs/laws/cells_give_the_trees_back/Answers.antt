@@ -1,6 +1,7 @@
 use Rattle.std.proofs.Common.{refl, ap, ◌∙◌}
-use Rattle.qs_tree.specs.Trees.{trees, forest, trees-forest}
-use Rattle.qs_tree.specs.Cells.{forest_in-cells_of, tree_of-cells_of_tree}
+use Rattle.qs_tree.specs.Trees.{trees, forest}
+use Rattle.qs_tree.specs.working.Trees.{trees-forest}
+use Rattle.qs_tree.specs.working.Cells.{forest_in-cells_of, tree_of-cells_of_tree}
 use Rattle.qs_tree.proofs.Runs.{tree_cells, forest_cells}
 use Rattle.qs_tree.proofs.laws.cells_give_the_trees_back.Goals as goal
 

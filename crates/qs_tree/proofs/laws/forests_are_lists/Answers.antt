@@ -1,4 +1,4 @@
-use Rattle.qs_tree.specs.Trees.{trees-forest, forest-trees}
+use Rattle.qs_tree.specs.working.Trees.{trees-forest, forest-trees}
 use Rattle.qs_tree.proofs.laws.forests_are_lists.Goals as goal
 
 pub returns-clause-list : goal.returns-clause-list

@@ -1,7 +1,7 @@
 use Rattle.std.proofs.Common.{arith, ap, sym, subst}
 use Rattle.qs_tree.specs.Lists.{◌∈◌}
 use Rattle.qs_graph.specs.Graphs.{Arc, QGraph, IsNode}
-use Rattle.qs_graph.proofs.Lines.{member-slice_get}
+use Rattle.qs_tree.proofs.Members.{in_at}
 use Rattle.qs_cascade.proofs.Places.{at_place}
 use Rattle.qs_cascade.proofs.arcs.Arcs.of.Goals as goal
 
@@ -9,7 +9,7 @@ use Rattle.qs_cascade.proofs.arcs.Arcs.of.Goals as goal
 copied : (c : goal.In_ok-copy) → IsNode c.args.graph.now c.in_ok-copy.field-0.from × IsNode c.args.graph.now c.in_ok-copy.field-0.to
 copied c =
     let at = at_place c.edges-edge-items.result.now c.loop-edge.edge-index c.edge-item.result c.loop-edge-test.true c.edge-item.is in
-    let i = member-slice_get c.edges-edge-items.result.now c.loop-edge.edge-index c.edge-item.result at in
+    let i = in_at c.edges-edge-items.result.now c.loop-edge.edge-index c.edge-item.result at in
     let r = c.edges-edge-items.ensures.valid.in_range c.edge-item.result (subst (λ arcs. c.edge-item.result ∈ arcs) c.edges-edge-items.ensures.value i) in
     subst (λ (x : Arc). IsNode c.args.graph.now x.from × IsNode c.args.graph.now x.to) (sym c.in_ok-copy.ensures) r
 

@@ -1,7 +1,7 @@
 use Rattle.std.proofs.Common.{◌≡◌, ◌++◌, ◌∷◌, [], length, Some, slice_get, arith, ap, sym, ◌∙◌, subst, if◌then◌else◌}
 use Rattle.std.proofs.Math.ListN.{set}
 use Rattle.qs_graph.specs.Graphs.{Arc, QGraph}
-use Rattle.qs_cascade.specs.Leaving.{IsIndexed}
+use Rattle.qs_cascade.specs.working.Leaving.{IsIndexed}
 use Rattle.qs_cascade.proofs.Places.{at_place, without_last}
 use Rattle.qs_cascade.proofs.Leavings.{indexed-arc, indexed-same}
 use Rattle.qs_cascade.proofs.arcs.Arcs.push.Goals as goal

@@ -24,7 +24,7 @@ loop-tree-preserved c =
     let n = ap (λ ts. length ts) is in
     let whole = c.loop-tree.invariant.0 in
     let before : c.loop-tree.edges.items ++ chain c.loop-tree.at (c.in-Some.tree ∷ c.next.new.self.rest.items) c.loop-tree.next c.args.to ≡ chain c.args.from c.args.trees.items 3 c.args.to = rw is at whole in (
-      rw c.in_ok-push.ensures.items (lay c.loop-tree.edges.items (chain c.args.from c.args.trees.items 3 c.args.to) c.loop-tree.at c.loop-tree.next c.args.to c.if-len.end c.in-Some.tree c.next.new.self.rest.items (last_end c) (inner_end c) before),
+      rw (c.in_ok-push.ensures.items, c.in_ok-new.ensures) (lay c.loop-tree.edges.items (chain c.args.from c.args.trees.items 3 c.args.to) c.loop-tree.at c.loop-tree.next c.args.to c.if-len.end c.in-Some.tree c.next.new.self.rest.items (last_end c) (inner_end c) before),
       omega (arith, n, c.in_ok-push.ensures.len),
       omega (arith, c.in_ok-push.ensures.len),
     )

@@ -1,6 +1,7 @@
 use Rattle.std.proofs.Common.{rules, ◌≡◌, ◌+◌, ◌-◌, ◌<◌, arith, [], ◌∷◌, length, ◌∙◌, ap, sym, subst}
 use Rattle.qs_turn.specs.declared.protocol.Stage.TheVariants.{Idle}
-use Rattle.qs_turn.specs.Protocol.{seat_view, new_views, pass_view, without_first, first_number, first_pass_count}
+use Rattle.qs_turn.specs.Protocol.{first_number, first_pass_count}
+use Rattle.qs_turn.specs.working.Protocol.{seat_view, new_views, pass_view, without_first}
 use Rattle.qs_turn.specs.Passes.{AreNewPasses}
 use Rattle.qs_turn.proofs.NewPasses.{new_views-next, new_pass, one_more_pass, all_new}
 use Rattle.qs_turn.proofs.turns.Turns.deal.Goals as goal

@@ -1,5 +1,5 @@
 use Rattle.std.proofs.Common.{◌≡◌, ◌-◌, ◌≤◌, [], vec_len, vec_capacity}
-use Rattle.qs_turn.specs.Protocol.{seat_view, new_views}
+use Rattle.qs_turn.specs.working.Protocol.{seat_view, new_views}
 use Rattle.qs_turn.specs.declared.protocol.Stage.TheVariants.{Idle}
 use Rattle.qs_turn.specs.Passes.{AreNewPasses}
 use Rattle.qs_turn.proofs.turns.Turns.deal.Given as goal

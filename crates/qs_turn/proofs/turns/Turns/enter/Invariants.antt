@@ -1,5 +1,5 @@
 use Rattle.std.proofs.Common.{◌≡◌}
-use Rattle.qs_turn.specs.Seats.{IsWaiting}
+use Rattle.qs_turn.specs.working.Seats.{IsWaiting}
 use Rattle.qs_turn.proofs.turns.Turns.enter.Given as goal
 
 abbrev pub invariant-loop : goal.invariant-loop

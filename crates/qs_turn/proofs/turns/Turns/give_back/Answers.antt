@@ -1,7 +1,8 @@
 use Rattle.std.proofs.Common.{rules, ◌∙◌, ap, sym, [], length}
 use Rattle.qs_turn.proofs.Keeps.{serve_keeps}
 use Rattle.qs_turn.proofs.GivingBack.{given, having_seen-length, having_seen-seen, having_seen-base}
-use Rattle.qs_turn.specs.Protocol.{seat_view, first_base, first_seen}
+use Rattle.qs_turn.specs.Protocol.{first_base, first_seen}
+use Rattle.qs_turn.specs.working.Protocol.{seat_view}
 use Rattle.qs_turn.specs.declared.protocol.Stage.TheVariants.{Idle}
 use Rattle.qs_turn.proofs.turns.Turns.give_back.Goals as goal
 

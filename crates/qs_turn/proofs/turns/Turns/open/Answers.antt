@@ -1,6 +1,6 @@
 use Rattle.std.proofs.Common.{rules, ◌≡◌, [], ◌∷◌, ◌++◌, Some, refl, ◌∙◌, ap, sym, subst}
 use Rattle.atomic_table.specs.Table as table
-use Rattle.qs_turn.specs.Protocol.{TurnRule, opening_view}
+use Rattle.qs_turn.specs.working.Protocol.{TurnRule, opening_view}
 use Rattle.qs_turn.proofs.NewPasses.{with_value}
 use Rattle.qs_turn.proofs.Keeps.{open_keeps}
 use Rattle.qs_turn.proofs.turns.Turns.open.Goals as goal

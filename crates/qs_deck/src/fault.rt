@@ -1,0 +1,27 @@
+//! Faults of a text, before they are told.
+
+use qs_check::CheckEnd;
+use qs_lex::Cause;
+
+/// Why a text with tokens means no deck.
+#[derive(Clone, Copy, Debug, PartialEq, Eq)]
+pub enum FaultEnd {
+    /// The text has a fault: the byte of its place, and its cause.
+    Fault { byte: u32, cause: Cause },
+    /// There was no memory.
+    Memory,
+}
+
+impl From<CheckEnd> for FaultEnd {
+    ghost use Rattle.std.specs.Prelude.{◌≡◌};
+    ghost use Rattle.qs_deck.specs.Answers.{end_of_check};
+
+    ghost from_gives = { λ x e. e ≡ end_of_check x };
+
+    fn from(end: CheckEnd) -> FaultEnd {
+        match end {
+            CheckEnd::Refused { cause, at } => FaultEnd::Fault { byte: at, cause },
+            CheckEnd::Memory => FaultEnd::Memory,
+        }
+    }
+}

@@ -1,0 +1,6 @@
+pub mod Naming
+pub mod Tokens
+pub mod Taking
+pub mod Steps
+pub mod Lists
+pub mod Between

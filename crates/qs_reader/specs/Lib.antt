@@ -1,0 +1,3 @@
+-- What naming and the steps of a reader mean. Each definition is this project's own.
+pub mod Names
+pub mod Readers

@@ -1,0 +1,237 @@
+-- A written deck that is passed: its labels are written alike under other names that keep what has no end of a line, no condition
+-- in it compares an empty list, and its graph has no more nodes than marks can tell, since each node stands on an arc.
+use Rattle.std.proofs.Common.{◌≡◌, ℕ, ◌≤◌, refl, sym, ap, ◌∙◌, subst, inl, inr, ⊎_elim, List, [], ◌∷◌, ◌++◌, length, drop, codes, arith, append_assoc}
+use Rattle.std.specs.Prelude.{decimal, flat_map}
+use Rattle.std.proofs.lemmas.Bool.{cases_lt}
+use Rattle.qs_lex.specs.Tokens.{bytes_of, AreTokensOf, Reads}
+use Rattle.qs_lex.specs.Grammar.{Sort, a_node_mark, the_word, opening, closing, comma, stop}
+use Rattle.qs_lex.specs.declared.token.Token.{Token}
+use Rattle.qs_lex.specs.declared.token.Kind.TheVariants.{Node, Word as a_word, Opening, Closing, Comma, Stop}
+use Rattle.qs_lex.specs.declared.token.Word.TheVariants.{Systeme, Graphe}
+use Rattle.qs_tree.specs.Lists.{◌∈◌}
+use Rattle.qs_tree.specs.Trees.{Forest, no_tree, first_tree, Tree}
+use Rattle.qs_tree.specs.Text.{name_of, label_text, in_parentheses, behind_comma, forest_text, tree_text}
+use Rattle.qs_pattern.specs.Rules.{Rule, unmarked, IsAccepted}
+use Rattle.qs_ruletext.specs.Written.{written}
+use Rattle.qs_ruletext.proofs.ReadBack.{place, space, end_of_line, token}
+use Rattle.qs_ruletext.proofs.HeadsReadBack.{Closes}
+use Rattle.qs_graph.specs.Graphs.{Arc, QGraph, IsValid}
+use Rattle.qs_graphtext.specs.Texts.{line, node_mark, arc_line, graph_text}
+use Rattle.qs_graphtext.proofs.NodesOnArcs.{on_arc}
+use Rattle.qs_deck.specs.Decks.{Grammar}
+use Rattle.qs_deck.specs.Texts.{rule_line, grammar_text, deck_text}
+use Rattle.qsys.proofs.Neighbours.{Chain}
+use Rattle.qsys.proofs.MarksRead.{number_fits}
+use Rattle.qsys.proofs.Passing.{IsAt, IsBehind, Shows, pass_none, pass_kind, token_there}
+use Rattle.qsys.proofs.PassingRules.{HasFullListsIfGiven, KeepsLines, label_passed, rule_passed}
+
+-- the numbers of its nodes are not too great for marks
+abbrev Fits : Arc → Type 0
+Fits arc = (arc.from ≤ 999999999) × (arc.to ≤ 999999999)
+
+-- no condition in these rules compares an empty list
+abbrev pub HaveFull : List Rule → Type 0
+HaveFull rules = (rule : Rule) → rule ∈ rules → HasFullListsIfGiven rule.condition
+
+module _ (text : List ℕ) where
+  end_passed : (before : Sort) (left : List ℕ) → IsAt text before (codes "\n" ++ left) → IsAt text before left
+  end_passed before left at = pass_none text before (10 ∷ []) left (end_of_line text left) at
+
+  stop_passed : (before : Sort) (left : List ℕ) → IsAt text before (codes "." ++ left) → IsAt text stop left
+  stop_passed before left at = (pass_kind text Stop (codes ".") before (codes ".") left (token text Stop (codes ".") left refl tt refl) at).1
+
+  -- a mark tells a number that is not too great, and is passed
+  mark_passed : (n : ℕ) → 1 ≤ n → (before : Sort) (left : List ℕ) → IsAt text before (node_mark n ++ left) → (n ≤ 999999999) × IsAt text a_node_mark left
+  mark_passed n some before left at =
+      let found = token_there text before (node_mark n ++ left) (omega arith) refl at in
+      let t : Token = found.0 in
+      let fits = number_fits n left t.kind (bytes_of text t) (drop t.to text) found.1.spelled (found.2 ∙ ap (λ bs. 45 ∷ bs) (append_assoc (decimal n) (45 ∷ []) left)) in
+      (fits, (pass_kind text (Node n) (node_mark n) before (node_mark n) left (token text (Node n) (node_mark n) left (some, fits, refl) tt refl) at).1)
+
+  module _ (names others : List (List ℕ)) (keeps : KeepsLines names others) where
+    -- ---- rules and grammars
+
+    rules_passed : (rules : List Rule) → ((rule : Rule) → rule ∈ rules → IsAccepted rule) → (before : Sort) (left : List ℕ)
+        → IsAt text before (flat_map (rule_line names) rules ++ left)
+        → HaveFull rules × (flat_map (rule_line names) rules ≡ flat_map (rule_line others) rules) × IsBehind text left
+    rules_passed [] accepted before left at = ((λ rule i. absurd i), refl, (before, at))
+    rules_passed (r ∷ rules) accepted before left at =
+        let ok = accepted r (inl refl) in
+        let texts : List ℕ = flat_map (rule_line names) rules in
+        let rest : List ℕ = texts ++ left in
+        let x = rule_passed text names others keeps (unmarked r) ok.left.in_class ok.right.in_class ok.condition before (codes "\n" ++ rest)
+        (subst (IsAt text before) (append_assoc (rule_line names r) texts left ∙ append_assoc (written names (unmarked r)) (codes "\n") rest) at) in
+        let y = rules_passed rules (λ rule i. accepted rule (inr i)) stop left (end_passed stop rest x.2) in (
+          λ rule i. ⊎_elim (λ e. subst (λ (s : Rule). HasFullListsIfGiven s.condition) (sym e) x.0) (y.0 rule) i,
+          (λ i. line (x.1 i) ++ y.1 i),
+          y.2,
+        )
+
+    grammar_passed : (grammar : Grammar) → ((rule : Rule) → rule ∈ grammar.rules → IsAccepted rule) → (before : Sort) (left : List ℕ)
+        → IsAt text before (grammar_text names grammar ++ left)
+        → HaveFull grammar.rules × (grammar_text names grammar ≡ grammar_text others grammar) × IsBehind text left
+    grammar_passed grammar accepted before left at =
+        let label : List ℕ = label_text (name_of names grammar.name) in
+        let rules : List ℕ = flat_map (rule_line names) grammar.rules in
+        let rest : List ℕ = codes "\n" ++ (rules ++ left) in
+        let behind : List ℕ = codes "." ++ rest in
+        let whole : IsAt text before (codes "-SYSTEME-" ++ (32 ∷ (label ++ behind))) =
+        subst (IsAt text before)
+        (append_assoc (line (codes "-SYSTEME- " ++ (label ++ codes "."))) rules left
+        ∙ append_assoc (codes "-SYSTEME- " ++ (label ++ codes ".")) (codes "\n") (rules ++ left)
+        ∙ ap (λ bs. codes "-SYSTEME- " ++ bs) (append_assoc label (codes ".") rest))
+        at in
+        let a = pass_kind text (a_word Systeme) (codes "-SYSTEME-") before (codes "-SYSTEME-") (32 ∷ (label ++ behind)) (token text (a_word Systeme) (codes "-SYSTEME-") (32 ∷ (label ++ behind)) refl tt refl) whole in
+        let b = pass_none text (the_word Systeme) (32 ∷ []) (label ++ behind) (space text (label ++ behind)) a.1 in
+        let c = label_passed text names others keeps grammar.name (the_word Systeme) behind refl b in
+        let d = end_passed stop (rules ++ left) (stop_passed c.1.0 rest c.1.1) in
+        let e = rules_passed grammar.rules accepted stop left d in
+        (e.0, (λ i. line (codes "-SYSTEME- " ++ (c.0 i ++ codes ".")) ++ e.1 i), e.2)
+
+    grammars_passed : (grammars : List Grammar) → ((grammar : Grammar) → grammar ∈ grammars → (rule : Rule) → rule ∈ grammar.rules → IsAccepted rule) → (before : Sort) (left : List ℕ)
+        → IsAt text before (flat_map (grammar_text names) grammars ++ left)
+        → ((grammar : Grammar) → grammar ∈ grammars → HaveFull grammar.rules) × (flat_map (grammar_text names) grammars ≡ flat_map (grammar_text others) grammars) × IsBehind text left
+    grammars_passed [] accepted before left at = ((λ grammar i. absurd i), refl, (before, at))
+    grammars_passed (grammar ∷ grammars) accepted before left at =
+        let texts : List ℕ = flat_map (grammar_text names) grammars in
+        let x = grammar_passed grammar (accepted grammar (inl refl)) before (texts ++ left) (subst (IsAt text before) (append_assoc (grammar_text names grammar) texts left) at) in
+        let y = grammars_passed grammars (λ other i. accepted other (inr i)) x.2.0 left x.2.1 in (
+          λ other i. ⊎_elim (λ e. subst (λ (g : Grammar). HaveFull g.rules) (sym e) x.0) (y.0 other) i,
+          (λ i. x.1 i ++ y.1 i),
+          y.2,
+        )
+
+    -- ---- graphs
+
+    parentheses_passed : (kids : Forest) → Shows text (forest_text names kids ≡ forest_text others kids) (forest_text names kids)
+        → Shows text (in_parentheses kids (forest_text names kids) ≡ in_parentheses kids (forest_text others kids)) (in_parentheses kids (forest_text names kids))
+    parentheses_passed no_tree inside = λ before left closes at. (refl, (before, at))
+    parentheses_passed (first_tree l k r) inside = λ before left closes at.
+        let list : List ℕ = forest_text names (first_tree l k r) in
+        let x = pass_kind text Opening (codes "(") before (codes "(") ((list ++ codes ")") ++ left) (token text Opening (codes "(") ((list ++ codes ")") ++ left) refl tt refl) at in
+        let y = inside opening (codes ")" ++ left) refl (subst (IsAt text opening) (append_assoc list (codes ")") left) x.1) in
+        let z = pass_kind text Closing (codes ")") y.1.0 (codes ")") left (token text Closing (codes ")") left refl tt refl) y.1.1 in
+        (ap (λ bs. 40 ∷ (bs ++ 41 ∷ [])) y.0, (closing, z.1))
+
+    comma_passed : (trees : Forest) → Shows text (forest_text names trees ≡ forest_text others trees) (forest_text names trees)
+        → Shows text (behind_comma trees (forest_text names trees) ≡ behind_comma trees (forest_text others trees)) (behind_comma trees (forest_text names trees))
+    comma_passed no_tree behind = λ before left closes at. (refl, (before, at))
+    comma_passed (first_tree l k r) behind = λ before left closes at.
+        let list : List ℕ = forest_text names (first_tree l k r) ++ left in
+        let x = pass_kind text Comma (codes ",") before (codes ",") list (token text Comma (codes ",") list refl tt refl) at in
+        let y = behind comma left closes x.1 in
+        (ap (λ bs. 44 ∷ bs) y.0, y.1)
+
+    comma_closes : (trees : Forest) (bytes left : List ℕ) → Closes left → Closes (behind_comma trees bytes ++ left)
+    comma_closes no_tree bytes left closes = closes
+    comma_closes (first_tree l k r) bytes left closes = refl
+
+    parentheses_close : (kids : Forest) (bytes left : List ℕ) → Closes left → Closes (in_parentheses kids bytes ++ left)
+    parentheses_close no_tree bytes left closes = closes
+    parentheses_close (first_tree l k r) bytes left closes = refl
+
+    forest_passed : (trees : Forest) → Shows text (forest_text names trees ≡ forest_text others trees) (forest_text names trees)
+    forest_passed no_tree = λ before left closes at. (refl, (before, at))
+    forest_passed (first_tree l k r) = λ before left closes at.
+        let label : List ℕ = label_text (name_of names l) in
+        let below : List ℕ = in_parentheses k (forest_text names k) in
+        let behind : List ℕ = behind_comma r (forest_text names r) in
+        let behind_closes : Closes (behind ++ left) = comma_closes r (forest_text names r) left closes in
+        let whole : IsAt text before (label ++ (below ++ (behind ++ left))) =
+        subst (IsAt text before) (append_assoc label (below ++ behind) left ∙ ap (λ bs. label ++ bs) (append_assoc below behind left)) at in
+        let a = label_passed text names others keeps l before (below ++ (behind ++ left)) (parentheses_close k (forest_text names k) (behind ++ left) behind_closes) whole in
+        let b = parentheses_passed k (forest_passed k) a.1.0 (behind ++ left) behind_closes a.1.1 in
+        let c = comma_passed r (forest_passed r) b.1.0 left closes b.1.1 in
+        ((λ i. a.0 i ++ (b.0 i ++ c.0 i)), c.1)
+
+    tree_passed : (tree : Tree) → Shows text (tree_text names tree ≡ tree_text others tree) (tree_text names tree)
+    tree_passed tree = λ before left closes at.
+        let label : List ℕ = label_text (name_of names tree.root) in
+        let below : List ℕ = in_parentheses tree.subtrees (forest_text names tree.subtrees) in
+        let a = label_passed text names others keeps tree.root before (below ++ left) (parentheses_close tree.subtrees (forest_text names tree.subtrees) left closes) (subst (IsAt text before) (append_assoc label below left) at) in
+        let b = parentheses_passed tree.subtrees (forest_passed tree.subtrees) a.1.0 left closes a.1.1 in
+        ((λ i. a.0 i ++ b.0 i), b.1)
+
+    -- the pieces of a line, from left to right
+    in_pieces : (a tree b left : List ℕ)
+        → ((a ++ (32 ∷ (tree ++ (32 ∷ (b ++ (46 ∷ [])))))) ++ (10 ∷ [])) ++ left ≡ a ++ (32 ∷ (tree ++ (32 ∷ (b ++ (46 ∷ (10 ∷ left))))))
+    in_pieces a tree b left =
+        append_assoc (a ++ (32 ∷ (tree ++ (32 ∷ (b ++ (46 ∷ [])))))) (10 ∷ []) left
+        ∙ append_assoc a (32 ∷ (tree ++ (32 ∷ (b ++ (46 ∷ []))))) (10 ∷ left)
+        ∙ ap (λ w. a ++ (32 ∷ w)) (append_assoc tree (32 ∷ (b ++ (46 ∷ []))) (10 ∷ left))
+        ∙ ap (λ w. a ++ (32 ∷ (tree ++ (32 ∷ w)))) (append_assoc b (46 ∷ []) (10 ∷ left))
+
+    arc_passed : (arc : Arc) → 1 ≤ arc.from → 1 ≤ arc.to → (before : Sort) (left : List ℕ) → IsAt text before (arc_line names arc ++ left)
+        → Fits arc × (arc_line names arc ≡ arc_line others arc) × IsBehind text left
+    arc_passed arc from_some to_some before left at =
+        let tree : List ℕ = tree_text names arc.tree in
+        let end : List ℕ = 10 ∷ left in
+        let last : List ℕ = node_mark arc.to ++ (46 ∷ end) in
+        let middle : List ℕ = tree ++ (32 ∷ last) in
+        let a = mark_passed arc.from from_some before (32 ∷ middle) (subst (IsAt text before) (in_pieces (node_mark arc.from) tree (node_mark arc.to) left) at) in
+        let b = tree_passed arc.tree a_node_mark (32 ∷ last) refl (pass_none text a_node_mark (32 ∷ []) middle (space text middle) a.1) in
+        let c = mark_passed arc.to to_some b.1.0 (46 ∷ end) (pass_none text b.1.0 (32 ∷ []) last (space text last) b.1.1) in
+        let d = end_passed stop left (stop_passed a_node_mark end c.1) in
+        ((a.0, c.0), ap (λ bs. line (node_mark arc.from ++ (codes " " ++ (bs ++ (codes " " ++ (node_mark arc.to ++ codes ".")))))) b.0, (stop, d))
+
+    arcs_passed : (arcs : List Arc) → ((arc : Arc) → arc ∈ arcs → (1 ≤ arc.from) × (1 ≤ arc.to)) → (before : Sort) (left : List ℕ) → IsAt text before (flat_map (arc_line names) arcs ++ left)
+        → ((arc : Arc) → arc ∈ arcs → Fits arc) × (flat_map (arc_line names) arcs ≡ flat_map (arc_line others) arcs)
+    arcs_passed [] some before left at = ((λ arc i. absurd i), refl)
+    arcs_passed (first ∷ arcs) some before left at =
+        let texts : List ℕ = flat_map (arc_line names) arcs in
+        let ends = some first (inl refl) in
+        let x = arc_passed first ends.0 ends.1 before (texts ++ left) (subst (IsAt text before) (append_assoc (arc_line names first) texts left) at) in
+        let y = arcs_passed arcs (λ other i. some other (inr i)) x.2.0 left x.2.1 in
+        ((λ arc i. ⊎_elim (λ e. subst Fits (sym e) x.0) (y.0 arc) i), (λ i. x.1 i ++ y.1 i))
+
+-- ---- decks
+
+-- what is known of a deck that was passed
+pub record IsPassed (names others : List (List ℕ)) (grammars : List Grammar) (G : QGraph) : Type 0 where
+  pub full : (grammar : Grammar) → grammar ∈ grammars → HaveFull grammar.rules
+  pub alike : deck_text names grammars G ≡ deck_text others grammars G
+  pub few : G.nodes ≤ 999999999
+
+-- a deck whose text has tokens, which may stand side by side
+pub deck_passed : (names others : List (List ℕ)) → KeepsLines names others → (grammars : List Grammar) → ((grammar : Grammar) → grammar ∈ grammars → (rule : Rule) → rule ∈ grammar.rules → IsAccepted rule)
+    → (G : QGraph) → IsValid G → (ts : List Token) → AreTokensOf (deck_text names grammars G) ts → Chain stop ts → IsPassed names others grammars G
+deck_passed names others keeps grammars accepted G valid ts are chain = record {
+  full = a.0;
+  alike = λ i. a.1 i ++ (line (codes "-GRAPHE-") ++ (c.1 i ++ line (codes "-FIN-")));
+  few = ⊎_elim (λ none. omega arith) last_fits (cases_lt G.nodes 1);
+}
+  where
+    text : List ℕ
+    text = deck_text names grammars G
+
+    graph : List ℕ
+    graph = graph_text names G
+
+    behind_word : List ℕ
+    behind_word = flat_map (arc_line names) G.arcs ++ line (codes "-FIN-")
+
+    start : IsAt text stop (flat_map (grammar_text names) grammars ++ graph)
+    start =
+        let from : place text text ≡ 0 = omega arith in
+        record { is = record { before = []; whole = refl }; tokens = ts; reads = subst (λ (k : ℕ). Reads text k ts (length text)) (sym from) are; chain = chain }
+
+    a : ((grammar : Grammar) → grammar ∈ grammars → HaveFull grammar.rules) × (flat_map (grammar_text names) grammars ≡ flat_map (grammar_text others) grammars) × IsBehind text graph
+    a = grammars_passed text names others keeps grammars accepted stop graph start
+
+    b : IsAt text (the_word Graphe) behind_word
+    b =
+        end_passed text (the_word Graphe) behind_word
+        (pass_kind text (a_word Graphe) (codes "-GRAPHE-") a.2.0 (codes "-GRAPHE-") (codes "\n" ++ behind_word)
+        (token text (a_word Graphe) (codes "-GRAPHE-") (codes "\n" ++ behind_word) refl tt refl) a.2.1).1
+
+    c : ((arc : Arc) → arc ∈ G.arcs → Fits arc) × (flat_map (arc_line names) G.arcs ≡ flat_map (arc_line others) G.arcs)
+    c =
+        arcs_passed text names others keeps G.arcs
+        (λ arc i. let ends = valid.in_range arc i in (ends.0.0, ends.1.0))
+        (the_word Graphe) (line (codes "-FIN-")) b
+
+    last_fits : 1 ≤ G.nodes → G.nodes ≤ 999999999
+    last_fits some =
+        let (arc, i, at) = on_arc G valid G.nodes (some, omega arith) in
+        let small = c.0 arc i in
+        ⊎_elim (λ e. omega (arith, e, small.0)) (λ e. omega (arith, e, small.1)) at
