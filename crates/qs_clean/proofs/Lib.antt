@@ -18,6 +18,7 @@ pub mod Leaving
 pub mod CascadeExistence
 pub mod RenamingUndone
 pub mod RenamedInstances
+pub mod RenamedMerging
 pub mod RenamedFirings
 pub mod RenamedRounds
 pub mod RenamedCleaning

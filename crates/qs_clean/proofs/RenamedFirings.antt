@@ -1,5 +1,6 @@
 -- What fires, in which order, and what it adds, under other numbers for the labels.
 use Rattle.std.proofs.Common.{◌≡◌, ℕ, ◌+◌, ◌-◌, List, [], ◌∷◌, ◌++◌, length, map, slice_get, unwrap_or, Option, Some, None, refl, sym, ◌∙◌, ap, subst}
+use Rattle.std.specs.Prelude.{if◌then◌else◌}
 use Rattle.std.specs.Option.{option_map}
 use Rattle.std.specs.List.{cons_option}
 use Rattle.std.specs.Ordering.{nat_cmp}
@@ -20,16 +21,17 @@ use Rattle.qs_pattern.specs.Substitutions.{Substitution, variables_of, IsOfClass
 use Rattle.qs_pattern.specs.Instances.{inst, IsCovered, IsMatch}
 use Rattle.qs_pattern.specs.Conditions.{Condition, Conditions, compared, negated, combined, no_condition, condition_first, HoldsIfGiven, condition_variables, IsConditionInClass, IsConditionCovered}
 use Rattle.qs_pattern.specs.working.Conditions.{EachListOfAll}
-use Rattle.qs_pattern.specs.Rules.{Rule, unmarked, IsAccepted, variables_if_given, IsInClassIfGiven, variables_behind}
+use Rattle.qs_pattern.specs.Rules.{Rule, all_unique, unmarked, IsAccepted, variables_if_given, IsInClassIfGiven, variables_behind}
 use Rattle.qs_pattern.proofs.MatchLemmas.{matched_value}
 use Rattle.qs_pattern.proofs.Covering.{all_covered, condition_covered, conditions_variables}
 use Rattle.qs_graph.specs.Graphs.{Arc, QGraph, Leads, IsPath, arcs_at, trees_on}
 use Rattle.qs_graph.specs.Chains.{chain, with_chain}
 use Rattle.qs_firing.specs.Firings.{Firing, Fires, key, order}
-use Rattle.qs_firing.specs.Adding.{start_of, end_of, built, adds}
+use Rattle.qs_firing.specs.Adding.{start_of, end_of, built, standing, met, unless_met, added, adds}
 use Rattle.qs_clean.specs.Renaming.{IsRenaming, renamed_tree, renamed_head, renamed_patterns, renamed_condition, renamed_conditions, renamed_rule, renamed_arc, renamed_graph}
 use Rattle.qs_clean.specs.working.Renaming.{renamed_value, renamed_pair, renamed_substitution, renamed_firing}
 use Rattle.qs_clean.proofs.RenamedInstances.{inst_renamed, holds_renamed}
+use Rattle.qs_clean.proofs.RenamedMerging.{unique_renamed, standing_renamed, unless_met_renamed}
 
 -- two ways to take a list through two functions
 pub map_past : {X Y Z W : Type 0} (k : X → Y) (h : Y → W) (l : X → Z) (m : Z → W) → ((x : X) → h (k x) ≡ m (l x)) → (xs : List X) → map h (map k xs) ≡ map m (map l xs)
@@ -220,11 +222,20 @@ module _ (f : ℕ → ℕ) where
       ap (λ (more : List Arc). map (renamed_arc f) G.arcs ++ more) (chain_renamed a ts (G.nodes + 1) b) ∙ sym (map-append (renamed_arc f) G.arcs (chain a ts (G.nodes + 1) b)) in
       λ i. record { nodes = nodes i; arcs = arcs i }
 
-  pub adds_renamed : (R : List Rule) (G : QGraph) (x : Firing) → built (map (renamed_rule f) R) (renamed_firing f x) ≡ map (renamed_tree f) (built R x)
-      → adds (map (renamed_rule f) R) (renamed_graph f G) (renamed_firing f x) ≡ renamed_graph f (adds R G x)
-  adds_renamed R G x builds =
-      (λ i. with_chain (renamed_graph f G) (start_renamed G.arcs x.path i) (builds i) (end_renamed G.arcs x.path i))
-      ∙ with_chain_renamed G (start_of G.arcs x.path) (built R x) (end_of G.arcs x.path)
+  -- where other labels have other numbers too, the same arc is met
+  module _ (g : ℕ → ℕ) (undone : (n : ℕ) → g (f n) ≡ n) (R : List Rule) (G : QGraph) (x : Firing) (builds : built (map (renamed_rule f) R) (renamed_firing f x) ≡ map (renamed_tree f) (built R x)) where
+    pub met_renamed : met (map (renamed_rule f) R) (renamed_graph f G) (renamed_firing f x) ≡ met R G x
+    met_renamed =
+        (λ i. if unique_renamed f R i then standing (map (renamed_arc f) G.arcs) (start_renamed G.arcs x.path i) (builds i) (end_renamed G.arcs x.path i) else None)
+        ∙ ap (λ l. if all_unique R then l else None) (standing_renamed f g undone G.arcs (start_of G.arcs x.path) (built R x) (end_of G.arcs x.path))
+
+    added_renamed : added (map (renamed_rule f) R) (renamed_graph f G) (renamed_firing f x) ≡ map (renamed_tree f) (added R G x)
+    added_renamed = (λ i. unless_met (met_renamed i) (builds i)) ∙ unless_met_renamed f (met R G x) (built R x)
+
+    pub adds_renamed : adds (map (renamed_rule f) R) (renamed_graph f G) (renamed_firing f x) ≡ renamed_graph f (adds R G x)
+    adds_renamed =
+        (λ i. with_chain (renamed_graph f G) (start_renamed G.arcs x.path i) (added_renamed i) (end_renamed G.arcs x.path i))
+        ∙ with_chain_renamed G (start_of G.arcs x.path) (added R G x) (end_of G.arcs x.path)
 
 -- what fires builds the same and fires, under the other numbers
 module _ (f : ℕ → ℕ) (R : List Rule) (bound : (rule : Rule) → rule ∈ R → IsBound rule) (arcs : List Arc) (x : Firing) (fires : Fires R arcs x) where

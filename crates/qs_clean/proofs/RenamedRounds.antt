@@ -1,18 +1,19 @@
 -- Rounds and closures under other numbers for the labels.
-use Rattle.std.proofs.Common.{◌≡◌, ℕ, zero, suc, ◌<◌, List, [], ◌∷◌, ◌++◌, length, map, refl, sym, ◌∙◌, ap, subst, inl, inr, ⊎_elim}
+use Rattle.std.proofs.Common.{◌≡◌, ℕ, zero, suc, ◌<◌, List, [], ◌∷◌, ◌++◌, length, map, unwrap_or, refl, sym, ◌∙◌, ap, subst, inl, inr, ⊎_elim}
+use Rattle.std.specs.Prelude.{is_some}
 use Rattle.std.proofs.lemmas.List.{map-append, length-map}
 use Rattle.qs_tree.specs.Lists.{◌∈◌, Ascends}
 use Rattle.qs_tree.proofs.Members.{from_map, mapped, in_map}
 use Rattle.qs_pattern.specs.Rules.{Rule}
 use Rattle.qs_graph.specs.Graphs.{Arc, QGraph}
 use Rattle.qs_firing.specs.Firings.{Firing, Fires, Before}
-use Rattle.qs_firing.specs.Adding.{built}
+use Rattle.qs_firing.specs.Adding.{built, met, first_arc, meets}
 use Rattle.qs_canon.specs.Rounds.{Round, Done, Stage, firings, after, after_one, Rounds, Closes, Needs}
 use Rattle.qs_clean.specs.Renaming.{IsRenaming, renamed_tree, renamed_rule, renamed_arc, renamed_graph}
 use Rattle.qs_clean.specs.working.Renaming.{renamed_firing, renamed_done, renamed_stage}
 use Rattle.qs_clean.proofs.RenamingUndone.{rules_undone, arcs_undone, firing_undone}
 use Rattle.qs_clean.proofs.RenamedInstances.{from_map_undone}
-use Rattle.qs_clean.proofs.RenamedFirings.{map_past, IsBound, bound_renamed, order_renamed, adds_renamed, built_renamed, fires_renamed}
+use Rattle.qs_clean.proofs.RenamedFirings.{map_past, IsBound, bound_renamed, order_renamed, met_renamed, adds_renamed, built_renamed, fires_renamed}
 
 pub inverse : (f g : ℕ → ℕ) → IsRenaming f g → IsRenaming g f
 inverse f g is = record { back = is.forth; forth = is.back }
@@ -29,15 +30,19 @@ module _ (f : ℕ → ℕ) where
   )
 
   -- firings that build the same are done the same
-  module _ (R : List Rule) (n : ℕ) where
+  module _ (g : ℕ → ℕ) (undone : (n : ℕ) → g (f n) ≡ n) (R : List Rule) (n : ℕ) where
     one_renamed : (S : Stage) (x : Firing) → built (map (renamed_rule f) R) (renamed_firing f x) ≡ map (renamed_tree f) (built R x)
         → after_one (map (renamed_rule f) R) n (renamed_stage f S) (renamed_firing f x) ≡ renamed_stage f (after_one R n S x)
     one_renamed S x builds =
-        let graph = adds_renamed f R S.graph x builds in
-        let done : map (renamed_done f) S.done ++ record { firing = renamed_firing f x; first = length (map (renamed_arc f) S.graph.arcs); round = n } ∷ []
-        ≡ map (renamed_done f) (S.done ++ record { firing = x; first = length S.graph.arcs; round = n } ∷ []) =
-        ap (λ k. map (renamed_done f) S.done ++ record { firing = renamed_firing f x; first = k; round = n } ∷ []) (length-map S.graph.arcs (renamed_arc f))
-        ∙ sym (map-append (renamed_done f) S.done (record { firing = x; first = length S.graph.arcs; round = n } ∷ [])) in
+        let graph = adds_renamed f g undone R S.graph x builds in
+        let same : met (map (renamed_rule f) R) (renamed_graph f S.graph) (renamed_firing f x) ≡ met R S.graph x = met_renamed f g undone R S.graph x builds in
+        let many : length (map (renamed_arc f) S.graph.arcs) ≡ length S.graph.arcs = length-map S.graph.arcs (renamed_arc f) in
+        let this : Done = record { firing = x; first = first_arc R S.graph x; round = n; met = meets R S.graph x } in
+        let done : map (renamed_done f) S.done ++ record { firing = renamed_firing f x; first = first_arc (map (renamed_rule f) R) (renamed_graph f S.graph) (renamed_firing f x);
+          round = n; met = meets (map (renamed_rule f) R) (renamed_graph f S.graph) (renamed_firing f x) } ∷ []
+        ≡ map (renamed_done f) (S.done ++ this ∷ []) =
+        (λ i. map (renamed_done f) S.done ++ record { firing = renamed_firing f x; first = unwrap_or (same i) (many i); round = n; met = is_some (same i) } ∷ [])
+        ∙ sym (map-append (renamed_done f) S.done (this ∷ [])) in
         λ i. record { graph = graph i; done = done i }
 
     after_renamed : (S : Stage) (F : List Firing) → ((x : Firing) → x ∈ F → built (map (renamed_rule f) R) (renamed_firing f x) ≡ map (renamed_tree f) (built R x))
@@ -82,7 +87,7 @@ module _ (f g : ℕ → ℕ) (is : IsRenaming f g) (R : List Rule) (bound : (rul
     map (renamed_firing f) F,
     rounds_renamed G n B b,
     stage_round B F r,
-    ap (renamed_stage f) e ∙ sym (after_renamed f R (suc n) B F (λ x i. built_renamed f R bound B.graph.arcs x (r.fires x i))),
+    ap (renamed_stage f) e ∙ sym (after_renamed f g is.back R (suc n) B F (λ x i. built_renamed f R bound B.graph.arcs x (r.fires x i))),
   )
 
   pub closes_renamed : (G : QGraph) (C : Stage) → Closes R G C → Closes others (renamed_graph f G) (renamed_stage f C)

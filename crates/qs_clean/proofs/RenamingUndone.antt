@@ -92,7 +92,7 @@ module _ (f g : ℕ → ℕ) (undone : (n : ℕ) → g (f n) ≡ n) where
   firing_undone x = λ i. record { rule = x.rule; path = x.path; values = substitution_undone x.values i }
 
   done_undone : (d : Done) → renamed_done g (renamed_done f d) ≡ d
-  done_undone d = λ i. record { firing = firing_undone d.firing i; first = d.first; round = d.round }
+  done_undone d = λ i. record { firing = firing_undone d.firing i; first = d.first; round = d.round; met = d.met }
 
   pub stage_undone : (S : Stage) → renamed_stage g (renamed_stage f S) ≡ S
   stage_undone S = λ i. record { graph = graph_undone S.graph i; done = map_undone (renamed_done f) (renamed_done g) done_undone S.done i }

@@ -37,13 +37,13 @@ side (l ∷ ls) = node_first (head.Label l) no_pattern (side ls)
 abbrev pub rule : List Label → List Label → Rule
 rule left right = record { left = side left; right = side right; condition = None; unique = false }
 
--- An arc, and a firing that is done, of the rule with this number on this path.
+-- An arc, and a firing that is done, of the rule with this number on this path, which met no arc.
 abbrev pub arc : ℕ → Label → ℕ → Arc
 arc a l b = record { from = a; to = b; tree = leaf l }
 
 abbrev pub done : ℕ → List ℕ → ℕ → ℕ → Done
 done r path first round =
-    record { firing = record { rule = r; path = path; values = [] }; first = first; round = round }
+    record { firing = record { rule = r; path = path; values = [] }; first = first; round = round; met = false }
 
 -- One arc A.
 abbrev pub one_arc : QGraph

@@ -9,6 +9,8 @@ use Rattle.qs_tree.proofs.Members.{in_append_right, in_map, from_map, in_at}
 use Rattle.qs_lex.specs.declared.refusal.Cause.{Cause}
 use Rattle.qs_lex.specs.declared.refusal.Cause.TheVariants.{TooManySystems}
 use Rattle.qs_lex.specs.declared.refusal.Refusal.{Refusal}
+use Rattle.qs_lex.specs.declared.refusal.LexEnd.{LexEnd}
+use Rattle.qs_lex.specs.declared.refusal.LexEnd.TheVariants as lex_end
 use Rattle.qs_lex.specs.Refusals as lexing
 use Rattle.qs_lex.proofs.Refusing.{refused}
 use Rattle.qs_pattern.specs.Conditions.{Condition}
@@ -37,7 +39,7 @@ use Rattle.qs_deck.specs.Checks.{IsChecked, IsCheckFault, too_many_systems, rule
 use Rattle.qs_deck.specs.Refusals.{IsGraphFault, too_many_arcs, cycle, entries, exits, IsFault, tokens, check, graph, IsRefusalOf, EndsFor}
 use Rattle.qs_deck.specs.declared.deck.DeckEnd.{DeckEnd}
 use Rattle.qs_deck.specs.declared.deck.DeckEnd.TheVariants as deck_end
-use Rattle.qs_deck.specs.Answers.{end_of_check, end_of_chains, IsEndOf}
+use Rattle.qs_deck.specs.Answers.{end_of_tokens, end_of_check, end_of_chains, IsEndOf}
 use Rattle.qs_deck.specs.Checked.{IsFirstFault}
 use Rattle.qs_deck.proofs.CheckSteps.{HasFewRules}
 use Rattle.qs_deck.proofs.Borders.{spans, byte_border, few_tokens}
@@ -54,10 +56,10 @@ pub never_ok : {T E : Type 0} (P : T → Type 0) (r : Result T E) → IfOk r P �
 never_ok P (Ok x) h none = absurd (none x h)
 never_ok P (Err e) h none = refl
 
--- a refusal at the first fault of its tokens
-pub lexed : (bytes text : List ℕ) (r : Refusal) → text ≡ bytes → IsUtf8 bytes → lexing.IsRefusalOf text r → IsRefusalOf bytes r
-lexed bytes text r e u is =
-    subst (λ b. IsUtf8 b → IsRefusalOf b r) e (λ v. refused (tokens v is.fault) is.tells) u
+-- a text that has no tokens is refused for their first fault
+pub tokens_end : (text : List ℕ) → IsUtf8 text → (end : LexEnd) → lexing.EndsFor text end → EndsFor text (end_of_tokens end)
+tokens_end text utf8 (lex_end.Refused r) is = refused (tokens utf8 is.fault) is.tells
+tokens_end text utf8 lex_end.Memory is = tt
 
 -- what holds of each of a list holds of a member
 pub all_member : {X : Type 0} (P : X → Type 0) (xs : List X) (x : X) → All P xs → x ∈ xs → P x

@@ -111,19 +111,21 @@ fn deck_of_tokens(alloc: Global, text: &str, tokens: &[Token]) -> Result<Deck, F
     ensures end { IfErr result (IsEndOf text.now) }
 {
     shallow(text, tokens)?;
-    let (names, written) = written(alloc, text, tokens)?;
+    let (names, deck) = written(alloc, text, tokens)?;
     let RawDeck {
         systems,
         graph_at,
         chains,
-    } = written;
+    } = deck;
     let systems = checked(alloc, systems)?;
-    let graph = graph_of(alloc, chains).map_err(|end| graph_end(graph_at, end))?;
-    Ok(Deck {
-        names,
-        systems,
-        graph,
-    })
+    match graph_of(alloc, chains) {
+        Ok(graph) => Ok(Deck {
+            names,
+            systems,
+            graph,
+        }),
+        Err(end) => Err(graph_end(graph_at, end)),
+    }
 }
 
 /// What is told of a text that means no deck.

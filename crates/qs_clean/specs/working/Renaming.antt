@@ -26,7 +26,7 @@ renamed_firing f x = record { rule = x.rule; path = x.path; values = renamed_sub
 
 -- A stage has its graph and the firings that are done written so.
 abbrev pub renamed_done : (ℕ → ℕ) → Done → Done
-renamed_done f d = record { firing = renamed_firing f d.firing; first = d.first; round = d.round }
+renamed_done f d = record { firing = renamed_firing f d.firing; first = d.first; round = d.round; met = d.met }
 
 abbrev pub renamed_stage : (ℕ → ℕ) → Stage → Stage
 renamed_stage f S = record { graph = renamed_graph f S.graph; done = map (renamed_done f) S.done }

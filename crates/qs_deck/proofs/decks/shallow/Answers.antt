@@ -7,6 +7,6 @@ use Rattle.qs_deck.proofs.decks.shallow.Goals as goal
 pub returns-in-Some-clause-end : goal.returns-in-Some-clause-end
 returns-in-Some-clause-end c = (
   subst (λ place. IsFault c.args.text.now place TooDeep) (sym c.byte_of.ensures.value)
-  (nesting c.args.tokens.now c.in-Some.index c.requires.utf8 c.requires.of_text (record { deep = c.in-Some.ensures.some; first = c.in-Some.ensures.first })),
+      (nesting c.args.tokens.now c.in-Some.index c.requires.utf8 c.requires.of_text (record { deep = c.in-Some.ensures.some; first = c.in-Some.ensures.first })),
   c.byte_of.ensures.border,
 )

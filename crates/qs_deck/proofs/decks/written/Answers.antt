@@ -12,7 +12,7 @@ read_written-requires-clause-room c =
 pub returns-in-Err-Syntax-clause-end : goal.returns-in-Err-Syntax-clause-end
 returns-in-Err-Syntax-clause-end c = (
   subst (λ place. IsFault c.args.text.now place Syntax) (sym (c.byte_of.ensures.value ∙ ap (byte_of c.args.text.now c.args.tokens.now) c.in-Err-Syntax.index-is))
-  (syntax c.args.tokens.now c.in-Err-Syntax.index (record { utf8 = c.requires.utf8; are_tokens = c.requires.of_text; shallow = c.requires.shallow })
-  (subst (EndsAt c.args.tokens.now) c.in-Err-Syntax.field-0-is c.in-Err-Syntax.ensures.ends)),
+      (syntax c.args.tokens.now c.in-Err-Syntax.index (record { utf8 = c.requires.utf8; are_tokens = c.requires.of_text; shallow = c.requires.shallow })
+      (subst (EndsAt c.args.tokens.now) c.in-Err-Syntax.field-0-is c.in-Err-Syntax.ensures.ends)),
   c.byte_of.ensures.border,
 )
