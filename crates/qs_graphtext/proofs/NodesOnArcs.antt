@@ -42,8 +42,8 @@ pub on_arc : (G : QGraph) → IsValid G → (n : ℕ) → IsNode G n → IsOnArc
 on_arc G valid n node = by (decide_in n (map (λ arc. arc.to) G.arcs)) (decide_in n (map (λ arc. arc.from) G.arcs))
   where
     by : Dec (n ∈ map (λ (arc : Arc). arc.to) G.arcs) → Dec (n ∈ map (λ (arc : Arc). arc.from) G.arcs) → IsOnArc G.arcs n
-    by (yes i) other = let (arc, j, e) = from_image (λ x. x.to) G.arcs n i in (arc, j, inr e)
-    by (no f) (yes i) = let (arc, j, e) = from_image (λ x. x.from) G.arcs n i in (arc, j, inl e)
+    by (yes i) other = let (arc, j, e) = mapped (λ x. x.to) G.arcs n i in (arc, j, inr (sym e))
+    by (no f) (yes i) = let (arc, j, e) = mapped (λ x. x.from) G.arcs n i in (arc, j, inl (sym e))
     by (no f) (no g) = absurd (not_alone G valid n node
         (λ arc j e. f (subst (λ k. k ∈ map (λ (x : Arc). x.to) G.arcs) e (in_map (λ (x : Arc). x.to) G.arcs arc j)))
         (λ arc j e. g (subst (λ k. k ∈ map (λ (x : Arc). x.from) G.arcs) e (in_map (λ (x : Arc). x.from) G.arcs arc j))))

@@ -1,4 +1,5 @@
 pub mod NodesFew
+pub mod Calls
 pub mod GoingOn
 pub mod Starting
 pub mod OneDefinition

@@ -18,7 +18,7 @@ use Rattle.qs_deck.specs.MadeDecks.{made_grammar, made_graph, word_tree, words}
 use Rattle.qsys.specs.declared.job.Command.TheVariants as command
 use Rattle.qsys.specs.declared.job.Job.{Job}
 use Rattle.qsys.specs.declared.status.Status.{Status}
-use Rattle.qsys.specs.declared.status.Status.TheVariants.{Done, Limit, ReadFault, WriteFault, Memory}
+use Rattle.qsys.specs.declared.status.Status.TheVariants.{Done, Limit, WriteFault, Memory}
 use Rattle.qsys.specs.Answers.{WritesDefined, WritesProperPrefix, EndsAsDefined}
 use Rattle.qsys.specs.Cascading.{IsWritten}
 use Rattle.qsys.specs.Ends.{left_of, ending_of}
@@ -88,9 +88,3 @@ written_ends job bytes old new answer (Ok t) text status kind defined same (inr 
     (λ failed. subst (EndsAsDefined job bytes old new) (sym failed) front)
     (λ wanting. subst (EndsAsDefined job bytes old new) (sym wanting) (inr front))
     stopped
-
-pub no_read_fault : (answer : Status) → (answer ≡ Done) ⊎ (answer ≡ Limit) ⊎ (answer ≡ WriteFault) ⊎ (answer ≡ Memory) → answer ≡ ReadFault → ⊥
-no_read_fault answer (inl e) bad = let other : Done ≡ ReadFault = sym e ∙ bad in absurd cc
-no_read_fault answer (inr (inl e)) bad = let other : Limit ≡ ReadFault = sym e ∙ bad in absurd cc
-no_read_fault answer (inr (inr (inl e))) bad = let other : WriteFault ≡ ReadFault = sym e ∙ bad in absurd cc
-no_read_fault answer (inr (inr (inr e))) bad = let other : Memory ≡ ReadFault = sym e ∙ bad in absurd cc

@@ -1,54 +1,52 @@
-use Rattle.std.proofs.Common.{◌≡◌, ◌⊎◌, Err, ap, ◌∙◌, map, subst, sym}
+use Rattle.std.proofs.Common.{◌⊎◌, inl, inr, Err, ap, map, subst, refl, sym, ◌∙◌}
 use Rattle.std.specs.String.{string_bytes}
 use Rattle.qsys.specs.declared.job.Job.{Job}
-use Rattle.qsys.specs.declared.status.Status.TheVariants as status
-use Rattle.qsys.specs.Defined.{Reads}
-use Rattle.qsys.specs.Answers.{EndsAsDefined, EndsAsGiven, WritesDefined}
+use Rattle.qsys.specs.Answers.{EndsAsDefined}
+use Rattle.qsys.specs.Calls.{DoesJob}
+use Rattle.qsys.proofs.Calls.{nothing_done, nothing_read}
 use Rattle.qsys.proofs.ReadWords.{not_both, same_job}
 use Rattle.qsys.proofs.top.qsys.Goals as goal
 
+-- a job that is read from the words is the one that they give
 pub returns-in-Ok-clause-headline : goal.returns-in-Ok-clause-headline
 returns-in-Ok-clause-headline g c = λ job is bytes told.
     subst (λ (j : Job). EndsAsDefined j bytes (g.K.Sink.written c.args.sink.now) (g.K.Sink.written c.run_still.new.sink) c.run_still.result)
     (same_job (map string_bytes c.args.words.now) c.in-Ok.job job c.in-Ok.ensures.job is)
     (c.run_still.ensures.headline bytes told)
 
-pub returns-in-Ok-clause-complete : goal.returns-in-Ok-clause-complete
-returns-in-Ok-clause-complete g c = λ job is bytes told few no_read_fault no_write_fault.
-    subst (λ (j : Job). WritesDefined j bytes (g.K.Sink.written c.args.sink.now) (g.K.Sink.written c.run_still.new.sink) c.run_still.result ⊎ (c.run_still.result ≡ status.Memory))
+pub returns-in-Ok-clause-does_job : goal.returns-in-Ok-clause-does_job
+returns-in-Ok-clause-does_job g c = λ job is.
+    subst (λ (j : Job). DoesJob g.S.Source g.K.Sink j c.args.source.now c.run_still.new.source c.args.sink.now c.run_still.new.sink c.run_still.result)
     (same_job (map string_bytes c.args.words.now) c.in-Ok.job job c.in-Ok.ensures.job is)
-    (c.run_still.ensures.complete bytes told few no_read_fault no_write_fault)
+    c.run_still.ensures.does_job
 
-pub returns-in-Ok-clause-as_given : goal.returns-in-Ok-clause-as_given
-returns-in-Ok-clause-as_given g c = λ job is.
-    subst (λ (j : Job). EndsAsGiven j (g.S.Source.given c.args.source.now) (g.S.Source.given c.run_still.new.source) (g.K.Sink.written c.args.sink.now) (g.K.Sink.written c.run_still.new.sink) c.run_still.result)
-    (same_job (map string_bytes c.args.words.now) c.in-Ok.job job c.in-Ok.ensures.job is)
-    c.run_still.ensures.as_given
+pub returns-in-Ok-clause-words : goal.returns-in-Ok-clause-words
+returns-in-Ok-clause-words g c = record {
+  usage = λ told. absurd (c.run_still.ensures.not_usage told);
+  refused_words = λ refused. absurd (not_both (map string_bytes c.args.words.now) c.in-Ok.job c.in-Ok.ensures.job refused);
+}
 
-pub returns-in-Err-Usage-clause-as_given : goal.returns-in-Err-Usage-clause-as_given
-returns-in-Err-Usage-clause-as_given g c = λ job is. absurd (not_both (map string_bytes c.args.words.now) job is (c.in-Err-Usage.ensures.usage (ap Err c.in-Err-Usage.field-0-is)))
-
+-- words that are refused give no job
 pub returns-in-Err-Usage-clause-headline : goal.returns-in-Err-Usage-clause-headline
 returns-in-Err-Usage-clause-headline g c = λ job is bytes told. absurd (not_both (map string_bytes c.args.words.now) job is (c.in-Err-Usage.ensures.usage (ap Err c.in-Err-Usage.field-0-is)))
 
-pub returns-in-Err-Usage-clause-usage : goal.returns-in-Err-Usage-clause-usage
-returns-in-Err-Usage-clause-usage g c = λ is. (c.in-Err-Usage.ensures.usage (ap Err c.in-Err-Usage.field-0-is), c.write_usage.ensures.written is)
+pub returns-in-Err-Usage-clause-does_job : goal.returns-in-Err-Usage-clause-does_job
+returns-in-Err-Usage-clause-does_job g c = λ job is. absurd (not_both (map string_bytes c.args.words.now) job is (c.in-Err-Usage.ensures.usage (ap Err c.in-Err-Usage.field-0-is)))
 
--- a job that is read from the words is the one that they give
-pub returns-in-Ok-clause-ended : goal.returns-in-Ok-clause-ended
-returns-in-Ok-clause-ended g c = λ job is reads.
-    c.run_still.ensures.ended
-    (subst (λ (j : Job). Reads j.command) (sym (same_job (map string_bytes c.args.words.now) c.in-Ok.job job c.in-Ok.ensures.job is)) reads)
+pub returns-in-Err-Usage-clause-words : goal.returns-in-Err-Usage-clause-words
+returns-in-Err-Usage-clause-words g c = record {
+  usage = λ told. (c.in-Err-Usage.ensures.usage (ap Err c.in-Err-Usage.field-0-is), c.write_usage.ensures.usage.written told);
+  refused_words = λ refused. elim c.write_usage.ensures.usage.answers [ inl told ↦ inl told | inr failed ↦ inr (inl failed) ];
+}
 
-pub returns-in-Ok-clause-read_to_end : goal.returns-in-Ok-clause-read_to_end
-returns-in-Ok-clause-read_to_end g c = λ job is reads.
-    c.run_still.ensures.read_to_end
-    (subst (λ (j : Job). Reads j.command) (sym (same_job (map string_bytes c.args.words.now) c.in-Ok.job job c.in-Ok.ensures.job is)) reads)
+pub returns-in-Err-Usage-clause-cause : goal.returns-in-Err-Usage-clause-cause
+returns-in-Err-Usage-clause-cause g c =
+    let answers = c.write_usage.ensures.usage.answers in
+    nothing_read g.S.Source g.K.Sink _ _ _ c.write_usage.result
+    (λ bad. elim answers [ inl told ↦ let other = sym told ∙ bad in absurd cc | inr failed ↦ let other = sym failed.0 ∙ bad in absurd cc ])
+    (λ long. elim answers [ inl told ↦ let other = sym told ∙ long in absurd cc | inr failed ↦ let other = sym failed.0 ∙ long in absurd cc ])
+    c.write_usage.ensures.writes
 
-pub returns-in-Ok-clause-nothing_read_by_made : goal.returns-in-Ok-clause-nothing_read_by_made
-returns-in-Ok-clause-nothing_read_by_made g c = λ job is made.
-    c.run_still.ensures.nothing_read (ap (λ (j : Job). j.command) (same_job (map string_bytes c.args.words.now) c.in-Ok.job job c.in-Ok.ensures.job is) ∙ made)
-
-pub returns-in-Ok-clause-made_answers : goal.returns-in-Ok-clause-made_answers
-returns-in-Ok-clause-made_answers g c = λ job is made.
-    c.run_still.ensures.made_answers (ap (λ (j : Job). j.command) (same_job (map string_bytes c.args.words.now) c.in-Ok.job job c.in-Ok.ensures.job is) ∙ made)
+-- no memory
+pub returns-in-Err-Memory-clause-does_job : goal.returns-in-Err-Memory-clause-does_job
+returns-in-Err-Memory-clause-does_job g c = λ job is. nothing_done g.S.Source g.K.Sink c.args.source.now job c.args.sink.now
