@@ -1,6 +1,6 @@
 -- What a written deck means, and how it is refused.
-use Rattle.std.proofs.Common.{◌≡◌, ℕ, ◌≤◌, ◌<◌, List, [], ◌∷◌, length, map, refl, sym, ap, subst, inl, inr, arith, Option, Some, None}
-use Rattle.std.specs.Prelude.{IsCharBoundary, unwrap_or, Result, Ok, Err, IfOk, IfErr, IsErr}
+use Rattle.std.proofs.Common.{◌≡◌, ℕ, ◌≤◌, ◌<◌, List, [], ◌∷◌, length, map, refl, sym, subst, inl, inr, arith, Option, Some, None}
+use Rattle.std.specs.Prelude.{IsCharBoundary, Result, Ok, Err, IfOk, IfErr, IsErr}
 use Rattle.std.specs.Str.{IsUtf8}
 use Rattle.std.specs.List.{All}
 use Rattle.std.proofs.lemmas.List.Elements.{All-head, All-tail}
@@ -36,7 +36,7 @@ use Rattle.qs_deck.specs.declared.system.System.{System}
 use Rattle.qs_deck.specs.Named.{IsRuleNamed, AreSystemsNamed}
 use Rattle.qs_deck.specs.Decks.{Grammar, rule_of, grammar_of, meaning_of, IsWritten}
 use Rattle.qs_deck.specs.Checks.{IsChecked, IsCheckFault, too_many_systems, rule_not_accepted}
-use Rattle.qs_deck.specs.Refusals.{IsGraphFault, too_many_arcs, cycle, entries, exits, IsFault, tokens, check, graph, IsRefusalOf, EndsFor}
+use Rattle.qs_deck.specs.Refusals.{too_many_arcs, cycle, entries, exits, tokens, check, graph, IsRefusalOf, EndsFor}
 use Rattle.qs_deck.specs.declared.deck.DeckEnd.{DeckEnd}
 use Rattle.qs_deck.specs.declared.deck.DeckEnd.TheVariants as deck_end
 use Rattle.qs_deck.specs.Answers.{end_of_tokens, end_of_check, end_of_chains, IsEndOf}

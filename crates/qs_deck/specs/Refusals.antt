@@ -1,6 +1,6 @@
 -- The first fault of a text that isn't accepted. The phases stand in an order: bytes, tokens, nesting,
 -- syntax, check, graph. The first phase that finds a fault answers, with its first fault.
-use Rattle.std.specs.Prelude.{◌≡◌, ℕ, ◌<◌, List, length, Option, Some, None, slice_get}
+use Rattle.std.specs.Prelude.{ℕ, ◌<◌, List, length, Option, Some, None, slice_get}
 use Rattle.std.specs.Str.{IsUtf8}
 use Rattle.std.specs.Str.Lossy.{utf8_valid_len}
 use Rattle.qs_lex.specs.declared.token.Token.{Token}

@@ -1,5 +1,3 @@
-use Rattle.std.proofs.Common.{List, ℕ}
-use Rattle.qs_lex.specs.Refusals as lexing
 use Rattle.qs_deck.specs.Answers.{end_of_tokens}
 use Rattle.qs_deck.specs.Refusals.{EndsFor}
 use Rattle.qs_deck.proofs.Tables.{hands_on}

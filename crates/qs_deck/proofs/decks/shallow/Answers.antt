@@ -1,5 +1,4 @@
 use Rattle.std.proofs.Common.{sym, subst}
-use Rattle.std.specs.Prelude.{IsCharBoundary}
 use Rattle.qs_lex.specs.declared.refusal.Cause.TheVariants.{TooDeep}
 use Rattle.qs_deck.specs.Refusals.{IsFault, nesting}
 use Rattle.qs_deck.proofs.decks.shallow.Goals as goal
