@@ -55,6 +55,21 @@ impl<'a> Reader<'a> {
         self.alloc
     }
 
+    /// The text.
+    pub fn text(&self) -> &'a str
+        ensures { result.now ≡ self.now.text }
+    {
+        self.text
+    }
+
+    /// All tokens of the text.
+    pub fn tokens(&self) -> &'a [Token]
+        ensures tokens { result.now ≡ self.now.tokens }
+        ensures of_text { AreTokensOf self.now.text self.now.tokens }
+    {
+        self.tokens
+    }
+
     /// The place.
     pub fn place(&self) -> usize
         ensures place { result ≡ self.now.place }
@@ -95,6 +110,14 @@ impl<'a> Reader<'a> {
         ensures taken { self.new ≡ record self.old { place = self.old.place + 1 } }
     {
         self.place += 1;
+    }
+
+    /// Goes to another place, up to which something else has read.
+    pub fn go_to(&mut self, place: usize)
+        requires { place ≤ length self.old.tokens }
+        ensures { self.new ≡ record self.old { place = place } }
+    {
+        self.place = place;
     }
 
     /// Whether the next token is of this kind, a word or a sign. If so it passes it.
