@@ -1,15 +1,14 @@
 -- What holds between two turns of a loop that reads what may be repeated.
-use Rattle.std.proofs.Common.{◌≡◌, ℕ, ◌+◌, ◌≤◌, Bool, true, false, refl, sym, ◌∙◌, ap, subst, List, [], ◌∷◌, length, arith}
+use Rattle.std.proofs.Common.{◌≡◌, ℕ, ◌≤◌, Bool, true, refl, sym, subst, List, ◌∷◌, length, arith}
 use Rattle.qs_lex.specs.declared.token.Token.{Token}
-use Rattle.qs_lex.specs.Grammar.{Sort, a_label as the_label, sort_of, Form, one, part, ◌·◌, repeated, Grammar}
-use Rattle.qs_lex.specs.Expecting.{same_sort, NextIsNo}
-use Rattle.qs_lex.specs.working.Expecting.{first}
+use Rattle.qs_lex.specs.Grammar.{Sort, sort_of, Form, one, ◌·◌, repeated, Grammar}
+use Rattle.qs_lex.specs.Expecting.{first, NextIsNo}
 use Rattle.qs_lex.proofs.Expected.{same_itself}
 use Rattle.qs_reader.specs.declared.text_end.TextEnd.{TextEnd}
-use Rattle.qs_reader.specs.Names.{KeepsNames, NamesGrowUpTo}
-use Rattle.qs_reader.specs.Readers.{Reading, rest_of, GoesOn, IsNext, Passes, Stays, IsTaken, takes_token, takes_sequence, takes_no_more, takes_more, StopsIn, stops_in_behind, stops_in_more, stops_later, Reads, IsRead, IsReadSoFar, Ends}
+use Rattle.qs_reader.specs.Names.{NamesGrowUpTo}
+use Rattle.qs_reader.specs.Readers.{Reading, rest_of, IsNext, Passes, Stays, takes_token, takes_sequence, takes_no_more, takes_more, StopsIn, stops_in_behind, stops_in_more, stops_later, Reads, IsRead, IsReadSoFar, Ends}
 use Rattle.qs_reader.proofs.Naming.{no_names, names_on}
-use Rattle.qs_reader.proofs.Steps.{on_and_on, then_read, token_read, ends_from}
+use Rattle.qs_reader.proofs.Steps.{on_and_on, ends_from}
 
 module _ {Part : Type 0} {line : Grammar Part} {table : Part → Sort → Bool} where
   -- the first member was read

@@ -1,18 +1,17 @@
 -- The steps of readers: what is known where a token, a label, one thing behind another, or one of two was read, and where that
 -- stopped.
-use Rattle.std.proofs.Common.{◌≡◌, ℕ, ◌+◌, ◌≤◌, Bool, true, false, refl, sym, ◌∙◌, ap, subst, List, [], ◌∷◌, length, drop, arith, Result}
+use Rattle.std.proofs.Common.{◌≡◌, ℕ, ◌+◌, ◌≤◌, Bool, false, refl, sym, ◌∙◌, ap, subst, List, ◌∷◌, length, drop, arith, Result}
 use Rattle.std.specs.Prelude.{IfErr, IsErrAnd}
 use Rattle.std.proofs.lemmas.Result.{err_from_is_err_and}
 use Rattle.qs_lex.specs.declared.token.Token.{Token}
-use Rattle.qs_lex.specs.Grammar.{Sort, a_label as the_label, sort_of, IsOf, Form, one, part, ◌·◌, ◌∣◌, optional, repeated, Grammar}
-use Rattle.qs_lex.specs.Expecting.{same_sort, NextIsNo}
-use Rattle.qs_lex.specs.working.Expecting.{nullable, first}
+use Rattle.qs_lex.specs.Grammar.{Sort, a_label as the_label, sort_of, IsOf, Form, one, part, ◌·◌, ◌∣◌, optional, Grammar}
+use Rattle.qs_lex.specs.Expecting.{same_sort, nullable, first, NextIsNo}
 use Rattle.qs_lex.proofs.Expected.{same_itself}
 use Rattle.qs_tree.specs.declared.cell.Label.{Label}
 use Rattle.qs_reader.specs.declared.text_end.TextEnd.{TextEnd}
 use Rattle.qs_reader.specs.declared.text_end.TextEnd.TheVariants.{Syntax, Memory}
-use Rattle.qs_reader.specs.Names.{KeepsNames, NamesGrowUpTo}
-use Rattle.qs_reader.specs.Readers.{Reading, rest_of, GoesOn, IsPassed, Passes, Stays, NamesLabel, IsNoneHere, EndsHere, IsTaken, takes_token, takes_part, takes_sequence, takes_this, takes_other, leaves_out, takes_member, StopsIn, none_fits, stops_in_part, stops_in_first, stops_in_behind, stops_in_this, stops_in_other, stops_in_member, stops_before, Reads, IsRead, StopsAt, StopsOr, Ends, AToken, a_token, ALabel, a_label, Nothing, nothing, Then, then}
+use Rattle.qs_reader.specs.Names.{NamesGrowUpTo}
+use Rattle.qs_reader.specs.Readers.{Reading, rest_of, GoesOn, IsPassed, Passes, Stays, NamesLabel, IsNoneHere, EndsHere, IsTaken, takes_token, takes_part, takes_sequence, takes_this, takes_other, leaves_out, takes_member, StopsIn, none_fits, stops_in_part, stops_in_first, stops_in_behind, stops_in_this, stops_in_other, stops_in_member, stops_before, Reads, IsRead, StopsOr, Ends, AToken, a_token, ALabel, a_label, Nothing, nothing, Then, then}
 use Rattle.qs_reader.proofs.Naming.{no_names, names_on, one_name, no_label}
 use Rattle.qs_reader.proofs.Tokens.{label_sort}
 

@@ -1,13 +1,12 @@
 -- The next token, and what passing it does.
-use Rattle.std.proofs.Common.{◌≡◌, ℕ, suc, ◌+◌, ◌<◌, ◌≤◌, false, refl, sym, ◌∙◌, ap, subst, List, [], ◌∷◌, length, drop, arith, get_or}
-use Rattle.std.specs.List.{All}
+use Rattle.std.proofs.Common.{◌≡◌, ℕ, suc, ◌+◌, ◌<◌, ◌≤◌, false, refl, sym, ◌∙◌, ap, subst, List, [], ◌∷◌, length, drop, arith, get_or, Some}
 use Rattle.std.proofs.Math.Seq.{drop-cons}
-use Rattle.std.proofs.lemmas.List.Elements.{All-get_or}
+use Rattle.std.proofs.lemmas.Option.{slice_get-get_or}
 use Rattle.qs_lex.specs.declared.token.Token.{Token}
 use Rattle.qs_lex.specs.declared.token.Kind.{Kind}
 use Rattle.qs_lex.specs.declared.token.Kind.TheVariants.{Bare, Quoted, Variable, Node, Word as a_word, Opening, Closing, Comma, Plus, Slash, Equals, Stop}
 use Rattle.qs_lex.specs.Spelling.{IsLabelText}
-use Rattle.qs_lex.specs.Tokens.{IsTokenOf, bytes_of, HasLabelText}
+use Rattle.qs_lex.specs.Tokens.{AreTokensOf, bytes_of, HasLabelText}
 use Rattle.qs_lex.specs.Grammar.{Sort, a_label, sort_of, IsOf}
 use Rattle.qs_lex.specs.Expecting.{same_sort, NextIsNo}
 use Rattle.qs_reader.specs.Readers.{Reading, rest_of, IsNext, IsPassed, Stays}
@@ -17,13 +16,13 @@ next_at tokens place t some e =
     let more : suc place ≡ place + 1 = omega arith in
     drop-cons tokens place t some ∙ ap (λ u. u ∷ drop (suc place) tokens) (sym e) ∙ ap (λ k. t ∷ drop k tokens) more
 
-pub next_token : (r : Reading) (t : Token) → All (IsTokenOf r.text) r.tokens → r.place < length r.tokens → t ≡ get_or r.tokens r.place t → IsNext t r
-next_token r t all some e =
+pub next_token : (r : Reading) (t : Token) → AreTokensOf r.text r.tokens → r.place < length r.tokens → t ≡ get_or r.tokens r.place t → IsNext t r
+next_token r t are some e =
     record {
       behind = drop (r.place + 1) r.tokens;
       are = next_at r.tokens r.place t some e;
       some = some;
-      of_text = subst (IsTokenOf r.text) (sym e) (All-get_or (IsTokenOf r.text) r.tokens r.place t some all);
+      of_text = record { tokens = r.tokens; are = are; index = r.place; there = slice_get-get_or r.tokens r.place t some ∙ ap Some (sym e) };
     }
 
 tail_is : (tokens behind : List Token) (place : ℕ) (t : Token) → drop place tokens ≡ t ∷ behind → place < length tokens → drop place tokens ≡ t ∷ drop (place + 1) tokens

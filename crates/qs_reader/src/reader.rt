@@ -1,9 +1,8 @@
 //! The reader.
 
 ghost use Rattle.std.specs.Prelude.{◌≡◌, ◌^◌, ◌+◌, ◌<◌, ◌≤◌, [], length, OnOk, IfOk, IfErr, IfSome, IfNone, IsTrue, IsFalse};
-ghost use Rattle.std.specs.List.{All};
 ghost use Rattle.qs_lex.specs.declared.token.Token.{Token};
-ghost use Rattle.qs_lex.specs.Tokens.{IsTokenOf};
+ghost use Rattle.qs_lex.specs.Tokens.{AreTokensOf};
 ghost use Rattle.qs_lex.specs.Grammar.{a_label, sort_of};
 ghost use Rattle.qs_reader.specs.Names.{KeepsNames};
 ghost use Rattle.qs_reader.specs.Readers.{rest_of, IsSign, IsNext, IsPassed, Passes, Stays, NamesLabel, EndsHere, between};
@@ -26,21 +25,20 @@ pub struct Reader<'a> {
 
 impl<'a> Model for Reader<'a> {
     ghost use Rattle.std.specs.Prelude.{◌≤◌, length};
-    ghost use Rattle.std.specs.List.{All};
-    ghost use Rattle.qs_lex.specs.Tokens.{IsTokenOf};
+    ghost use Rattle.qs_lex.specs.Tokens.{AreTokensOf};
     ghost use Rattle.qs_reader.specs.Readers.{Reading};
 
     ghost Value = { Reading };
 
     ghost view = { λ r. record { text = r.text.now; tokens = r.tokens.now; place = r.place } };
 
-    ghost invariant = { λ r. All (IsTokenOf r.text.now) r.tokens.now × (r.place ≤ length r.tokens.now) };
+    ghost invariant = { λ r. AreTokensOf r.text.now r.tokens.now × (r.place ≤ length r.tokens.now) };
 }
 
 impl<'a> Reader<'a> {
     /// A reader at this place among the tokens of the text.
     pub fn new(alloc: Global, text: &'a str, tokens: &'a [Token], place: usize) -> Reader<'a>
-        requires of_text { All (IsTokenOf text.now) tokens.now }
+        requires of_text { AreTokensOf text.now tokens.now }
         requires within { place ≤ length tokens.now }
         ensures { result ≡ record { text = text.now; tokens = tokens.now; place = place } }
     {
@@ -55,6 +53,21 @@ impl<'a> Reader<'a> {
     /// Where what is read takes its memory.
     pub fn alloc(&self) -> Global {
         self.alloc
+    }
+
+    /// The text.
+    pub fn text(&self) -> &'a str
+        ensures { result.now ≡ self.now.text }
+    {
+        self.text
+    }
+
+    /// All tokens of the text.
+    pub fn tokens(&self) -> &'a [Token]
+        ensures tokens { result.now ≡ self.now.tokens }
+        ensures of_text { AreTokensOf self.now.text self.now.tokens }
+    {
+        self.tokens
     }
 
     /// The place.
@@ -97,6 +110,14 @@ impl<'a> Reader<'a> {
         ensures taken { self.new ≡ record self.old { place = self.old.place + 1 } }
     {
         self.place += 1;
+    }
+
+    /// Goes to another place, up to which something else has read.
+    pub fn go_to(&mut self, place: usize)
+        requires { place ≤ length self.old.tokens }
+        ensures { self.new ≡ record self.old { place = place } }
+    {
+        self.place = place;
     }
 
     /// Whether the next token is of this kind, a word or a sign. If so it passes it.

@@ -11,11 +11,12 @@ use Rattle.qs_pattern.specs.Conditions.{Condition}
 use Rattle.qs_pattern.specs.Rules.{UnmarkedRule}
 use Rattle.qs_reader.specs.declared.text_end.TextEnd.{TextEnd}
 use Rattle.qs_reader.specs.declared.text_end.TextEnd.TheVariants.{Syntax, Memory}
-use Rattle.qs_reader.specs.Names.{KeepsNames}
+use Rattle.qs_reader.specs.Names.{KeepsNames, NamesGrow, NamesGrowUpTo}
 use Rattle.qs_reader.specs.Readers.{Reading, rest_of, Passes, Stays, EndsHere, Reads, AToken, a_token, Nothing, nothing, Then, then, StopsOr, between}
 use Rattle.qs_reader.specs.Readers as begun
 use Rattle.qs_reader.proofs.Steps.{token_read, left_out_read, then_read, read_so, read_at, member_read, part_read, token_ends, part_ends, first_ends, then_ends, member_ends}
-use Rattle.qs_reader.proofs.Between.{between_drop, next_at, at_next, cannot_go_on}
+use Rattle.qs_reader.proofs.Lists.{none_read}
+use Rattle.qs_reader.proofs.Between.{between_drop, next_at, at_next, names_up_to, cannot_go_on}
 use Rattle.qs_ruletext.specs.WrittenRules.{WrittenRule}
 use Rattle.qs_ruletext.specs.Grammar.{rule, side, cond, line}
 use Rattle.qs_ruletext.specs.Reading.{ReadsSide, ReadsCond}
@@ -43,7 +44,7 @@ ends_in_cond p e = member_ends p e
 
 -- a rule
 abbrev IsSide : Patterns → Reads
-IsSide side names text ts rest = ReadsSide names text ts side rest
+IsSide ps names text ts rest = ReadsSide names text ts ps rest
 
 abbrev IsGiven : Option Condition → Reads
 IsGiven c names text ts rest = ReadsCondIfGiven names text ts c rest
@@ -93,8 +94,13 @@ read_rule {r} {x} {first} {new} raw e at l p m g q =
 abbrev pub CompletesRules : List WrittenRule → Reads
 CompletesRules rules names text ts rest = (raws : List WrittenRule) (end : List Token) → ReadsRules names text rest raws end → ReadsRules names text ts (rules ++ raws) end
 
-pub rules_none : (rules : List WrittenRule) (names : List (List ℕ)) (text : List ℕ) (ts : List Token) → rules ≡ [] → CompletesRules rules names text ts ts
+rules_none : (rules : List WrittenRule) (names : List (List ℕ)) (text : List ℕ) (ts : List Token) → rules ≡ [] → CompletesRules rules names text ts ts
 rules_none rules names text ts e raws end r = subst (λ x. ReadsRules names text ts (x ++ raws) end) (sym e) r
+
+pub rules_start : {rules : List WrittenRule} {r s : Reading} (names : List (List ℕ)) → s ≡ r → r.place ≤ length r.tokens → rules ≡ [] → IsReadSoFar (repeated (part rule)) (part rule) (CompletesRules rules) r s names names
+rules_start {rules} {r} names same within e =
+    subst (λ s. IsReadSoFar (repeated (part rule)) (part rule) (CompletesRules rules) r s names names) (sym same)
+    (none_read names within (λ later. rules_none rules later r.text (rest_of r) e))
 
 pub rules_next : {raw : WrittenRule} (rules longer : List WrittenRule) → longer ≡ rules ++ raw ∷ [] → (names : List (List ℕ)) (text : List ℕ) (ts us rest : List Token)
     → CompletesRules rules names text ts us → ReadsWrittenRule names text us raw rest → CompletesRules longer names text ts rest
@@ -113,7 +119,7 @@ less_unless zero (suc n) le differs = omega arith
 less_unless (suc m) zero le differs = absurd (omega (arith, le))
 less_unless (suc m) (suc n) le differs = let less = less_unless m n (omega (arith, le)) (λ e. differs (ap suc e)) in omega (arith, less)
 
-module _ {text : List ℕ} {tokens : List Token} {from : ℕ} {rules : List WrittenRule} {s : Reading} {old new : List (List ℕ)}
+module _ {text : List ℕ} {tokens : List Token} {from : ℕ} (rules : List WrittenRule) {s : Reading} {old new : List (List ℕ)}
     (so_far : IsReadSoFar (repeated (part rule)) (part rule) (CompletesRules rules) (record { text = text; tokens = tokens; place = from }) s old new) where
   -- what stands behind them, by the place
   behind : rest_of s ≡ drop s.place tokens
@@ -126,6 +132,11 @@ module _ {text : List ℕ} {tokens : List Token} {from : ℕ} {rules : List Writ
 
   pub all_whole : IsWhole line (repeated (part rule)) (drop from tokens) (drop s.place tokens)
   all_whole = rules_whole new text (drop from tokens) (drop s.place tokens) rules (all_read new (λ k t i. i))
+
+  pub all_names : NamesGrow text (between tokens from s.place) old new
+  all_names =
+      names_up_to text tokens from s.place old new so_far.goes_on.forward (subst (λ us. s.place ≤ length us) so_far.goes_on.tokens so_far.goes_on.within)
+      (subst (λ us. NamesGrowUpTo text (drop from tokens) us old new) behind so_far.names)
 
   pub no_rule_behind : NextIsNo begins_tree (rest_of s) → NoRuleAt tokens s.place
   no_rule_behind n t here b =

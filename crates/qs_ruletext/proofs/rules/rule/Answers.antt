@@ -32,5 +32,5 @@ returns-in_err-expect-2-clause-ends c =
 
 pub returns-clause-read : goal.returns-clause-read
 returns-clause-read c =
-    read_rule _ refl (c.in_ok-at.ensures ∙ ap cell_bytes c.since.ensures ∙ ap (λ from. cell_bytes (between c.expect-2.new.self.tokens from c.expect-2.new.self.place)) c.place.ensures.place)
+    read_rule _ refl (c.in_ok-at.ensures ∙ ap cell_bytes c.since.ensures ∙ ap (λ from. cell_bytes (between c.expect-2.new.self.tokens from c.expect-2.new.self.place)) c.place-from.ensures.place)
     c.in_ok-left.ensures.read c.in_ok-expect.ensures.ok c.in_ok-right.ensures.read c.in_ok-cond.ensures.read c.in_ok-expect-2.ensures.ok
