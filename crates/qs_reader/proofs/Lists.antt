@@ -2,7 +2,8 @@
 use Rattle.std.proofs.Common.{◌≡◌, ℕ, ◌≤◌, Bool, true, refl, sym, subst, List, ◌∷◌, length, arith}
 use Rattle.qs_lex.specs.declared.token.Token.{Token}
 use Rattle.qs_lex.specs.Grammar.{Sort, sort_of, Form, one, ◌·◌, repeated, Grammar}
-use Rattle.qs_lex.specs.Expecting.{first, NextIsNo}
+use Rattle.qs_lex.specs.Expecting.{NextIsNo}
+use Rattle.qs_lex.specs.working.Expecting.{first}
 use Rattle.qs_lex.proofs.Expected.{same_itself}
 use Rattle.qs_reader.specs.declared.text_end.TextEnd.{TextEnd}
 use Rattle.qs_reader.specs.Names.{NamesGrowUpTo}

@@ -5,7 +5,8 @@ use Rattle.std.specs.Prelude.{IfErr, IsErrAnd}
 use Rattle.std.proofs.lemmas.Result.{err_from_is_err_and}
 use Rattle.qs_lex.specs.declared.token.Token.{Token}
 use Rattle.qs_lex.specs.Grammar.{Sort, a_label as the_label, sort_of, IsOf, Form, one, part, ◌·◌, ◌∣◌, optional, Grammar}
-use Rattle.qs_lex.specs.Expecting.{same_sort, nullable, first, NextIsNo}
+use Rattle.qs_lex.specs.Expecting.{same_sort, NextIsNo}
+use Rattle.qs_lex.specs.working.Expecting.{nullable, first}
 use Rattle.qs_lex.proofs.Expected.{same_itself}
 use Rattle.qs_tree.specs.declared.cell.Label.{Label}
 use Rattle.qs_reader.specs.declared.text_end.TextEnd.{TextEnd}
