@@ -1,14 +1,13 @@
 -- The steps of the reader of a rule, and what holds between two rules that are read.
-use Rattle.std.proofs.Common.{◌≡◌, ℕ, zero, suc, ◌+◌, ◌-◌, ◌<◌, ◌≤◌, refl, sym, ◌∙◌, ap, subst, ⊎_elim, List, [], ◌∷◌, ◌++◌, length, take, drop, arith, Option, Some, None, append_assoc, append-nil, length-drop}
+use Rattle.std.proofs.Common.{◌≡◌, ℕ, zero, suc, ◌-◌, ◌<◌, ◌≤◌, refl, sym, ◌∙◌, ap, subst, ⊎_elim, List, [], ◌∷◌, ◌++◌, length, take, drop, arith, Option, Some, None, append_assoc, append-nil}
 use Rattle.std.specs.Prelude.{slice_get}
 use Rattle.std.proofs.lemmas.Bool.{false≢true}
 use Rattle.qs_lex.specs.declared.token.Token.{Token}
-use Rattle.qs_lex.specs.Grammar.{equals, slash, stop, part, repeated, ◌·◌, one, sort_of, IsWhole, Begins, begins_token, begins_part, begins_first, begins_this, begins_other}
+use Rattle.qs_lex.specs.Grammar.{equals, slash, stop, part, repeated, sort_of, IsWhole, Begins, begins_token, begins_part, begins_first, begins_this, begins_other}
 use Rattle.qs_lex.specs.Expecting.{NextIsNo}
 use Rattle.qs_lex.proofs.Expected.{begin_front}
 use Rattle.qs_pattern.specs.Patterns.{Patterns}
 use Rattle.qs_pattern.specs.Conditions.{Condition}
-use Rattle.qs_pattern.specs.Rules.{UnmarkedRule}
 use Rattle.qs_reader.specs.declared.text_end.TextEnd.{TextEnd}
 use Rattle.qs_reader.specs.declared.text_end.TextEnd.TheVariants.{Syntax, Memory}
 use Rattle.qs_reader.specs.Names.{KeepsNames, NamesGrow, NamesGrowUpTo}

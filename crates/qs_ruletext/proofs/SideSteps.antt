@@ -1,14 +1,14 @@
 -- The steps of the readers of trees, lists and sides.
-use Rattle.std.proofs.Common.{◌≡◌, ℕ, ◌+◌, Bool, true, false, refl, sym, ◌∙◌, ap, subst, List, [], ◌∷◌, ◌++◌, arith}
+use Rattle.std.proofs.Common.{◌≡◌, ℕ, ◌+◌, Bool, true, false, refl, sym, ◌∙◌, ap, subst, List, arith}
 use Rattle.std.specs.Prelude.{not}
 use Rattle.std.proofs.lemmas.Bool.{false≢true}
 use Rattle.std.proofs.lemmas.Bool.Decides.{nat_tests}
 use Rattle.qs_lex.specs.declared.token.Token.{Token}
 use Rattle.qs_lex.specs.declared.token.Kind.{Kind}
 use Rattle.qs_lex.specs.declared.token.Kind.TheVariants.{Bare, Quoted, Variable, Node, Word as a_word, Opening, Closing, Comma, Plus, Slash, Equals, Stop}
-use Rattle.qs_lex.specs.Tokens.{IsTokenOf, bytes_of}
+use Rattle.qs_lex.specs.Tokens.{bytes_of}
 use Rattle.qs_lex.specs.Spelling.{Spells}
-use Rattle.qs_lex.specs.Grammar.{Sort, a_label as the_label, a_label_variable, a_tree_variable, a_forest_variable, opening, closing, variable_sort, sort_of, part}
+use Rattle.qs_lex.specs.Grammar.{a_label as the_label, a_label_variable, a_tree_variable, a_forest_variable, opening, closing, variable_sort, sort_of, part}
 use Rattle.qs_lex.specs.Expecting.{same_sort, Apart}
 use Rattle.qs_lex.proofs.Predictive.{next_neither}
 use Rattle.qs_lex.proofs.Predicting.{apart_is}
@@ -18,18 +18,17 @@ use Rattle.qs_pattern.specs.declared.variable.VarClass.{VarClass}
 use Rattle.qs_pattern.specs.declared.variable.VarClass.TheVariants as class
 use Rattle.qs_pattern.specs.declared.pattern.Head.{Head}
 use Rattle.qs_pattern.specs.declared.pattern.Head.TheVariants as head
-use Rattle.qs_pattern.specs.declared.pattern.Pattern.{Pattern}
 use Rattle.qs_pattern.specs.Classes.{IsClassOf}
-use Rattle.qs_pattern.specs.Patterns.{Patterns, no_pattern, node_first, tree_var_first, forest_var_first, one_pattern, patterns}
+use Rattle.qs_pattern.specs.Patterns.{Patterns, no_pattern, node_first, tree_var_first, forest_var_first}
 use Rattle.qs_tree.specs.declared.cell.Label.{Label}
 use Rattle.qs_reader.specs.declared.text_end.TextEnd.{TextEnd}
-use Rattle.qs_reader.specs.Readers.{Reading, rest_of, IsNext, IsPassed, Passes, Stays, NamesLabel, EndsHere, Reads, AToken, a_token, ALabel, a_label, Nothing, nothing, Then, then}
+use Rattle.qs_reader.specs.Readers.{Reading, rest_of, IsNext, Passes, Stays, NamesLabel, EndsHere, Reads, AToken, a_token, ALabel, a_label, Nothing, nothing, Then, then}
 use Rattle.qs_reader.proofs.Tokens.{passed, other_next}
 pub use Rattle.qs_reader.proofs.Tokens.{label_sort}
-use Rattle.qs_reader.proofs.Steps.{passed_read, token_read, label_read, left_out_read, absent_read, then_read, read_so, this_read, other_read, member_read, part_read, stayed_read, stayed_here, stayed_ends, ends_here, token_ends, part_ends, first_ends, then_ends, this_ends, other_ends, member_ends, before_ends}
+use Rattle.qs_reader.proofs.Steps.{passed_read, token_read, label_read, left_out_read, absent_read, then_read, read_so, this_read, other_read, member_read, part_read, stayed_read, stayed_here, stayed_ends, ends_here, token_ends, part_ends, first_ends, then_ends, this_ends, member_ends, before_ends}
 use Rattle.qs_ruletext.specs.Reading.{ReadsTree, reads_node, reads_tree_variable, ReadsSubtrees, no_parentheses, nothing_inside, list_inside, reads_tree, reads_forest_variable}
-use Rattle.qs_ruletext.specs.Grammar.{tree, list, item, line}
-use Rattle.qs_ruletext.specs.Readers.{table, begins_tree, begins_item, IsRead, Ends, IsGood, is_variable, sort_of_class, PassesVariable, a_head, in_parentheses, ReadsHead, reads_head, AList, ATree, AnItem, Subtrees}
+use Rattle.qs_ruletext.specs.Grammar.{tree, list, item}
+use Rattle.qs_ruletext.specs.Readers.{IsRead, Ends, IsGood, is_variable, sort_of_class, PassesVariable, a_head, in_parentheses, ReadsHead, reads_head, AList, ATree, AnItem, Subtrees}
 
 -- variables
 pub spelled_good : (kind : Kind) (bytes : List ℕ) → Spells kind bytes → IsGood kind

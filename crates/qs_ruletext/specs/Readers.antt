@@ -4,7 +4,7 @@ use Rattle.qs_lex.specs.declared.token.Token.{Token}
 use Rattle.qs_lex.specs.declared.token.Kind.{Kind}
 use Rattle.qs_lex.specs.declared.token.Kind.TheVariants.{Variable}
 use Rattle.qs_lex.specs.declared.token.Word.TheVariants.{Dans, Hors, Non}
-use Rattle.qs_lex.specs.Grammar.{Sort, a_label, a_label_variable, a_tree_variable, a_forest_variable, the_word, opening, closing, slash, sort_of, IsOf, Form, one, part, ◌·◌, ◌∣◌, optional}
+use Rattle.qs_lex.specs.Grammar.{Sort, a_label, a_label_variable, a_tree_variable, a_forest_variable, the_word, opening, closing, slash, sort_of, Form, one, part, ◌·◌, ◌∣◌, optional}
 use Rattle.qs_lex.specs.Expecting.{same_sort}
 use Rattle.qs_pattern.specs.declared.variable.Var.{Var}
 use Rattle.qs_pattern.specs.declared.variable.VarClass.{VarClass}
