@@ -1,5 +1,5 @@
--- What naming does: which names a reader leaves, the old ones and behind them the texts of the labels that it read, each once, in
--- the order of their first occurrence; and which label a token is in these names.
+-- What naming does: which names a reader leaves, the old ones and behind them the texts of the labels that it read,
+-- each once, in the order of their first occurrence; and which label a token is in these names.
 use Rattle.std.specs.Prelude.{◌≡◌, ℕ, ◌⊎◌, List, [], ◌∷◌, ◌++◌, Contains, Some, slice_get}
 use Rattle.qs_lex.specs.declared.token.Token.{Token}
 use Rattle.qs_lex.specs.Tokens.{IsLabel, HasLabelText}
@@ -21,7 +21,8 @@ AddsName old label new = (Contains old label × (new ≡ old)) ⊎ ((¬ Contains
 
 -- the text of the token comes behind the names where the token is a label; any other token leaves them as they are
 abbrev pub AddsNameOf : List ℕ → Token → List (List ℕ) → List (List ℕ) → Type 0
-AddsNameOf text t old new = ((¬ IsLabel t) × (new ≡ old)) ⊎ ((label : List ℕ) × HasLabelText text t label × AddsName old label new)
+AddsNameOf text t old new =
+    ((¬ IsLabel t) × (new ≡ old)) ⊎ ((label : List ℕ) × HasLabelText text t label × AddsName old label new)
 
 -- the texts of the labels among these tokens come behind the names, one after the other
 abbrev pub NamesGrow : List ℕ → List Token → List (List ℕ) → List (List ℕ) → Type 0
@@ -30,4 +31,5 @@ NamesGrow text (t ∷ ts) old new = (next : List (List ℕ)) × AddsNameOf text 
 
 -- the texts of the labels among the tokens before the rest come behind the names
 abbrev pub NamesGrowUpTo : List ℕ → List Token → List Token → List (List ℕ) → List (List ℕ) → Type 0
-NamesGrowUpTo text tokens rest old new = (passed : List Token) × (tokens ≡ passed ++ rest) × NamesGrow text passed old new
+NamesGrowUpTo text tokens rest old new =
+    (passed : List Token) × (tokens ≡ passed ++ rest) × NamesGrow text passed old new

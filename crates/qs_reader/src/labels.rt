@@ -19,7 +19,8 @@ pub fn label_of(
     requires label { IsLabel token.now }
     requires room { length names.old + 1 < 2 ^ 32 }
     ensures keeps { KeepsNames names.old names.new }
-    ensures label { IfOk result (λ label. (later : _) → KeepsNames names.new later → IsLabelOf later text.now token.now label) }
+    ensures label { IfOk result
+        (λ label. (later : _) → KeepsNames names.new later → IsLabelOf later text.now token.now label) }
     ensures adds { IfOk result (λ _. AddsNameOf text.now token.now names.old names.new) }
     ensures few { IfOk result (λ _. length names.new ≤ length names.old + 1) }
 {

@@ -1,7 +1,7 @@
 //! A reader of the tokens of a text: it stands at a place among them, looks at the next token, and passes it.
 //!
-//! Whoever reads by a grammar takes one. A fault is the place of the token that doesn't fit. It is made once, where that is seen,
-//! and handed on by `?`.
+//! Whoever reads by a grammar takes one. A fault is the place of the token that doesn't fit. It is made once, where
+//! that is seen, and handed on by `?`.
 #![tactic(auto)]
 
 mod labels;

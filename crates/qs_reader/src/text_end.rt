@@ -5,8 +5,8 @@ use std::alloc::{AllocError, AllocFailed};
 /// Why nothing was read.
 #[derive(Clone, Copy, Debug, PartialEq, Eq)]
 pub enum TextEnd {
-    /// What was begun can't go on with the token at this place of the list of tokens; the length of the list where the tokens
-    /// end within it.
+    /// What was begun can't go on with the token at this place of the list of tokens; the length of the list where the
+    /// tokens end within it.
     Syntax(usize),
     /// There was no memory. It may come at any time.
     Memory,

@@ -13,25 +13,19 @@ use Rattle.qs_reader.specs.declared.text_end.TextEnd.{TextEnd}
 use Rattle.qs_reader.specs.Readers.{Reading, rest_of, Passes, Stays, EndsHere, Reads, AToken, a_token, Nothing, nothing, Then, then}
 use Rattle.qs_reader.proofs.Steps.{token_read, left_out_read, then_read, read_so, this_read, other_read, member_read, part_read, stayed_read, stayed_here, stayed_ends, ends_here, token_ends, part_ends, first_ends, then_ends, this_ends, other_ends, next_is_no}
 use Rattle.qs_ruletext.specs.Grammar.{list, cond, neg, prim}
-use Rattle.qs_ruletext.specs.Reading.{any_of, all_of, comparing_word, ReadsList, ReadsCond, reads_cond, ReadsMoreConjs, no_more_conjs, one_more_conj, ReadsConj, reads_conj, ReadsMoreNegs, no_more_negs, one_more_neg, ReadsNeg, not_negated, reads_negated, ReadsPrim, reads_group, reads_compared}
-use Rattle.qs_ruletext.specs.Readers.{begins_item, begins_prim, IsRead, Ends, a_comparison}
+use Rattle.qs_ruletext.specs.Reading.{any_of, all_of, comparing_word, ReadsCond, reads_cond, ReadsMoreConjs, no_more_conjs, one_more_conj, ReadsConj, reads_conj, ReadsMoreNegs, no_more_negs, one_more_neg, ReadsNeg, not_negated, reads_negated, ReadsPrim, reads_group, reads_compared}
+use Rattle.qs_ruletext.specs.Readers.{begins_item, IsRead, Ends, a_comparison, ACond, AConj, AList, ANeg, APrim}
 
 -- two lists, compared
-abbrev IsList : Patterns → Reads
-IsList ps names text ts rest = ReadsList names text ts ps rest
-
-abbrev IsPrim : Condition → Reads
-IsPrim c names text ts rest = ReadsPrim names text ts c rest
-
-compares : {word : Comparing} {a b : Patterns} (names : List (List ℕ)) (text : List ℕ) (ts rest : List Token) → Then (IsList a) (Then (AToken (the_word (comparing_word word))) (IsList b)) names text ts rest → ReadsPrim names text ts (compared word a b) rest
+compares : {word : Comparing} {a b : Patterns} (names : List (List ℕ)) (text : List ℕ) (ts rest : List Token) → Then (AList a) (Then (AToken (the_word (comparing_word word))) (AList b)) names text ts rest → ReadsPrim names text ts (compared word a b) rest
 compares {word} names text ts rest (then l (then (a_token w) m)) = reads_compared {word = word} l w m
 
-pub read_within : {a b : Patterns} {r s u v : Reading} {old middle new : List (List ℕ)} → IsRead (part list) (λ names text ts rest. ReadsList names text ts a rest) r s old middle → Passes (the_word Dans) s u
-    → IsRead (part list) (λ names text ts rest. ReadsList names text ts b rest) u v middle new → IsRead a_comparison (λ names text ts rest. ReadsPrim names text ts (compared within a b) rest) r v old new
+pub read_within : {a b : Patterns} {r s u v : Reading} {old middle new : List (List ℕ)} → IsRead (part list) (AList a) r s old middle → Passes (the_word Dans) s u
+    → IsRead (part list) (AList b) u v middle new → IsRead a_comparison (APrim (compared within a b)) r v old new
 read_within {middle} a p b = read_so (compares {word = within}) (then_read a (then_read (this_read (token_read middle refl p)) b))
 
-pub read_outside : {a b : Patterns} {r s t u v : Reading} {old middle new : List (List ℕ)} → IsRead (part list) (λ names text ts rest. ReadsList names text ts a rest) r s old middle → Stays (the_word Dans) s t → Passes (the_word Hors) t u
-    → IsRead (part list) (λ names text ts rest. ReadsList names text ts b rest) u v middle new → IsRead a_comparison (λ names text ts rest. ReadsPrim names text ts (compared outside a b) rest) r v old new
+pub read_outside : {a b : Patterns} {r s t u v : Reading} {old middle new : List (List ℕ)} → IsRead (part list) (AList a) r s old middle → Stays (the_word Dans) s t → Passes (the_word Hors) t u
+    → IsRead (part list) (AList b) u v middle new → IsRead a_comparison (APrim (compared outside a b)) r v old new
 read_outside {middle} a st p b = read_so (compares {word = outside}) (then_read a (stayed_read st (then_read (other_read (token_read middle refl p)) b)))
 
 pub ends_in_first_list : {r : Reading} {end : TextEnd} → Ends (part list) r end → Ends a_comparison r end
@@ -48,11 +42,11 @@ pub ends_in_second_outside : {R : Reads} {r s t u : Reading} {old new : List (Li
 ends_in_second_outside {new} a st p e = then_ends a (stayed_ends st (then_ends (other_read (token_read new refl p)) e))
 
 -- a condition in parentheses
-group : {c : Condition} (names : List (List ℕ)) (text : List ℕ) (ts rest : List Token) → Then (AToken opening) (Then (λ names text ts rest. ReadsCond names text ts c rest) (AToken closing)) names text ts rest → ReadsPrim names text ts c rest
+group : {c : Condition} (names : List (List ℕ)) (text : List ℕ) (ts rest : List Token) → Then (AToken opening) (Then (ACond c) (AToken closing)) names text ts rest → ReadsPrim names text ts c rest
 group names text ts rest (then (a_token o) (then c (a_token e))) = reads_group o c e
 
-pub read_group : {c : Condition} {r s u v : Reading} {old new : List (List ℕ)} → Passes opening r s → IsRead (part cond) (λ names text ts rest. ReadsCond names text ts c rest) s u old new → Passes closing u v
-    → IsRead (part prim) (λ names text ts rest. ReadsPrim names text ts c rest) r v old new
+pub read_group : {c : Condition} {r s u v : Reading} {old new : List (List ℕ)} → Passes opening r s → IsRead (part cond) (ACond c) s u old new → Passes closing u v
+    → IsRead (part prim) (APrim c) r v old new
 read_group {old} {new} p a q = part_read (this_read (read_so group (then_read (token_read old refl p) (then_read a (token_read new refl q)))))
 
 pub ends_in_group : {r s : Reading} {end : TextEnd} → Passes opening r s → Ends (part cond) s end → Ends (part prim) r end
@@ -68,21 +62,21 @@ pub ends_in_comparison : {r s : Reading} {end : TextEnd} → Stays opening r s �
 ends_in_comparison st e = part_ends (other_ends st.none (stayed_ends st e))
 
 -- what may be negated
-negation : {c : Condition} (d : Condition) → d ≡ negated c → (names : List (List ℕ)) (text : List ℕ) (ts rest : List Token) → Then (AToken (the_word Non)) (IsPrim c) names text ts rest → ReadsNeg names text ts d rest
+negation : {c : Condition} (d : Condition) → d ≡ negated c → (names : List (List ℕ)) (text : List ℕ) (ts rest : List Token) → Then (AToken (the_word Non)) (APrim c) names text ts rest → ReadsNeg names text ts d rest
 negation d e names text ts rest (then (a_token n) p) = subst (λ x. ReadsNeg names text ts x rest) (sym e) (reads_negated n p)
 
-no_negation : {c : Condition} (names : List (List ℕ)) (text : List ℕ) (ts rest : List Token) → Then Nothing (IsPrim c) names text ts rest → ReadsNeg names text ts c rest
+no_negation : {c : Condition} (names : List (List ℕ)) (text : List ℕ) (ts rest : List Token) → Then Nothing (APrim c) names text ts rest → ReadsNeg names text ts c rest
 no_negation names text ts rest (then nothing p) = not_negated p
 
-pub read_negated : {c : Condition} {r s u : Reading} {old new : List (List ℕ)} (d : Condition) → d ≡ negated c → Passes (the_word Non) r s → IsRead (part prim) (λ names text ts rest. ReadsPrim names text ts c rest) s u old new
-    → IsRead (part neg) (λ names text ts rest. ReadsNeg names text ts d rest) r u old new
+pub read_negated : {c : Condition} {r s u : Reading} {old new : List (List ℕ)} (d : Condition) → d ≡ negated c → Passes (the_word Non) r s → IsRead (part prim) (APrim c) s u old new
+    → IsRead (part neg) (ANeg d) r u old new
 read_negated {old} d e p a = part_read (read_so (negation d e) (then_read (member_read (token_read old refl p)) a))
 
 pub ends_in_negated : {r s : Reading} {end : TextEnd} → Passes (the_word Non) r s → Ends (part prim) s end → Ends (part neg) r end
 ends_in_negated p e = part_ends (then_ends (member_read (token_read [] refl p)) e)
 
-pub read_not_negated : {c : Condition} {r s u : Reading} {old new : List (List ℕ)} → Stays (the_word Non) r s → IsRead (part prim) (λ names text ts rest. ReadsPrim names text ts c rest) s u old new
-    → IsRead (part neg) (λ names text ts rest. ReadsNeg names text ts c rest) r u old new
+pub read_not_negated : {c : Condition} {r s u : Reading} {old new : List (List ℕ)} → Stays (the_word Non) r s → IsRead (part prim) (APrim c) s u old new
+    → IsRead (part neg) (ANeg c) r u old new
 read_not_negated {old} st a = part_read (read_so no_negation (then_read (left_out_read old st.none st) a))
 
 pub ends_in_prim : {r s : Reading} {end : TextEnd} → Stays (the_word Non) r s → Ends (part prim) s end → Ends (part neg) r end
@@ -111,7 +105,7 @@ pub conj_first : {c : Condition} (more : Conditions) → more ≡ no_condition �
 conj_first {c} more e names text ts rest r cs end m = subst (λ ds. ReadsConj names text ts (all_of c (followed ds cs)) end) (sym e) (reads_conj r m)
 
 pub conj_next : (first : Condition) (more longer : List Cond) (c : Cond) → longer ≡ more ++ c ∷ [] → (names : List (List ℕ)) (text : List ℕ) (ts us rest : List Token) → CompletesConj first (conditions more) names text ts us
-    → Then (AToken (the_word Et)) (λ names text ts rest. ReadsNeg names text ts (condition_of c) rest) names text us rest → CompletesConj first (conditions longer) names text ts rest
+    → Then (AToken (the_word Et)) (ANeg (condition_of c)) names text us rest → CompletesConj first (conditions longer) names text ts rest
 conj_next first more longer c e names text ts us rest before (then (a_token w) r) cs end m =
     subst (λ ds. ReadsConj names text ts (all_of first ds) end) (sym (pushed more longer c cs e)) (before (condition_first (condition_of c) cs) end (one_more_neg w r m))
 
@@ -126,7 +120,7 @@ pub cond_first : {c : Condition} (more : Conditions) → more ≡ no_condition �
 cond_first {c} more e names text ts rest r cs end m = subst (λ ds. ReadsCond names text ts (any_of c (followed ds cs)) end) (sym e) (reads_cond r m)
 
 pub cond_next : (first : Condition) (more longer : List Cond) (c : Cond) → longer ≡ more ++ c ∷ [] → (names : List (List ℕ)) (text : List ℕ) (ts us rest : List Token) → CompletesCond first (conditions more) names text ts us
-    → Then (AToken (the_word Ou)) (λ names text ts rest. ReadsConj names text ts (condition_of c) rest) names text us rest → CompletesCond first (conditions longer) names text ts rest
+    → Then (AToken (the_word Ou)) (AConj (condition_of c)) names text us rest → CompletesCond first (conditions longer) names text ts rest
 cond_next first more longer c e names text ts us rest before (then (a_token w) r) cs end m =
     subst (λ ds. ReadsCond names text ts (any_of first ds) end) (sym (pushed more longer c cs e)) (before (condition_first (condition_of c) cs) end (one_more_conj w r m))
 

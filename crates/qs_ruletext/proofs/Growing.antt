@@ -6,6 +6,7 @@ use Rattle.qs_pattern.specs.declared.pattern.Pattern.{Pattern, Node', Tree, Fore
 use Rattle.qs_pattern.specs.Patterns.{Patterns, no_pattern, node_first, tree_var_first, forest_var_first, pattern_before, patterns}
 use Rattle.qs_pattern.specs.working.Patterns.{one_pattern}
 use Rattle.qs_reader.specs.Readers.{Reads, AToken, a_token, Then, then}
+use Rattle.qs_ruletext.specs.Readers.{ATree, AnItem}
 use Rattle.qs_ruletext.specs.Reading.{joined, ReadsTree, ReadsItem, ReadsList, reads_list, ReadsMoreItems, no_more_items, one_more_item, ReadsSide, reads_side, ReadsMoreTrees, no_more_trees, one_more_tree}
 
 pub joined-nil : (ps : Patterns) → joined ps no_pattern ≡ ps
@@ -37,7 +38,7 @@ pub list_first : {p : Patterns} (items : Patterns) → items ≡ p → (names : 
 list_first items e names text ts rest r ps end m = subst (λ q. ReadsList names text ts (joined q ps) end) (sym e) (reads_list r m)
 
 pub list_next : {p : Patterns} (items longer : Patterns) → longer ≡ joined items p → (names : List (List ℕ)) (text : List ℕ) (ts us rest : List Token)
-    → CompletesList items names text ts us → Then (AToken comma) (λ names text ts rest. ReadsItem names text ts p rest) names text us rest → CompletesList longer names text ts rest
+    → CompletesList items names text ts us → Then (AToken comma) (AnItem p) names text us rest → CompletesList longer names text ts rest
 list_next {p} items longer e names text ts us rest before (then (a_token c) r) ps end m =
     subst (λ q. ReadsList names text ts q end) (sym (ap (λ q. joined q ps) e ∙ joined-assoc items p ps)) (before (joined p ps) end (one_more_item c r m))
 
@@ -52,7 +53,7 @@ pub side_first : {p : Patterns} (trees : Patterns) → trees ≡ p → (names : 
 side_first trees e names text ts rest r ps end m = subst (λ q. ReadsSide names text ts (joined q ps) end) (sym e) (reads_side r m)
 
 pub side_next : {p : Patterns} (trees longer : Patterns) → longer ≡ joined trees p → (names : List (List ℕ)) (text : List ℕ) (ts us rest : List Token)
-    → CompletesSide trees names text ts us → Then (AToken plus) (λ names text ts rest. ReadsTree names text ts p rest) names text us rest → CompletesSide longer names text ts rest
+    → CompletesSide trees names text ts us → Then (AToken plus) (ATree p) names text us rest → CompletesSide longer names text ts rest
 side_next {p} trees longer e names text ts us rest before (then (a_token c) r) ps end m =
     subst (λ q. ReadsSide names text ts q end) (sym (ap (λ q. joined q ps) e ∙ joined-assoc trees p ps)) (before (joined p ps) end (one_more_tree c r m))
 

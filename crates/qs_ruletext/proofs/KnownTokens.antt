@@ -10,7 +10,7 @@ use Rattle.qs_lex.specs.declared.token.Kind.{Kind}
 use Rattle.qs_lex.specs.declared.token.Kind.TheVariants.{Bare, Quoted, Variable, Node, Word as a_word, Opening, Closing, Comma, Plus, Slash, Equals, Stop}
 use Rattle.qs_lex.specs.Spelling.{Spells, IsLabelText}
 use Rattle.qs_lex.specs.Tokens.{IsTokenOf, IsLabel, HasLabelText, bytes_of}
-use Rattle.qs_lex.specs.Grammar.{Sort, a_label, a_label_variable, a_tree_variable, a_forest_variable, variable_sort, sort_of, IsOf}
+use Rattle.qs_lex.specs.Grammar.{Sort, a_label, variable_sort, sort_of, IsOf}
 use Rattle.qs_lex.specs.Expecting.{same_sort}
 use Rattle.qs_lex.proofs.Readings.{token_stands}
 use Rattle.qs_tree.specs.declared.cell.Label.{Label}

@@ -1,14 +1,13 @@
 -- The steps of the reader of a rule, and what holds between two rules that are read.
-use Rattle.std.proofs.Common.{◌≡◌, ℕ, zero, suc, ◌+◌, ◌-◌, ◌<◌, ◌≤◌, refl, sym, ◌∙◌, ap, subst, ⊎_elim, List, [], ◌∷◌, ◌++◌, length, take, drop, arith, Option, Some, None, append_assoc, append-nil, length-drop}
+use Rattle.std.proofs.Common.{◌≡◌, ℕ, zero, suc, ◌-◌, ◌<◌, ◌≤◌, refl, sym, ◌∙◌, ap, subst, ⊎_elim, List, [], ◌∷◌, ◌++◌, length, take, drop, arith, Option, Some, None, append_assoc, append-nil}
 use Rattle.std.specs.Prelude.{slice_get}
 use Rattle.std.proofs.lemmas.Bool.{false≢true}
 use Rattle.qs_lex.specs.declared.token.Token.{Token}
-use Rattle.qs_lex.specs.Grammar.{equals, slash, stop, part, repeated, ◌·◌, one, sort_of, IsWhole, Begins, begins_token, begins_part, begins_first, begins_this, begins_other}
+use Rattle.qs_lex.specs.Grammar.{equals, slash, stop, part, repeated, sort_of, IsWhole, Begins, begins_token, begins_part, begins_first, begins_this, begins_other}
 use Rattle.qs_lex.specs.Expecting.{NextIsNo}
 use Rattle.qs_lex.proofs.Expected.{begin_front}
 use Rattle.qs_pattern.specs.Patterns.{Patterns}
 use Rattle.qs_pattern.specs.Conditions.{Condition}
-use Rattle.qs_pattern.specs.Rules.{UnmarkedRule}
 use Rattle.qs_reader.specs.declared.text_end.TextEnd.{TextEnd}
 use Rattle.qs_reader.specs.declared.text_end.TextEnd.TheVariants.{Syntax, Memory}
 use Rattle.qs_reader.specs.Names.{KeepsNames, NamesGrow, NamesGrowUpTo}
@@ -19,9 +18,8 @@ use Rattle.qs_reader.proofs.Lists.{none_read}
 use Rattle.qs_reader.proofs.Between.{between_drop, next_at, at_next, names_up_to, cannot_go_on}
 use Rattle.qs_ruletext.specs.WrittenRules.{WrittenRule}
 use Rattle.qs_ruletext.specs.Grammar.{rule, side, cond, line}
-use Rattle.qs_ruletext.specs.Reading.{ReadsSide, ReadsCond}
 use Rattle.qs_ruletext.specs.Rules.{cell_bytes, ReadsCondIfGiven, no_cond, some_cond, ReadsRule, reads_rule, ReadsWrittenRule, ReadsRules, NoRuleAt, EndsFrom}
-use Rattle.qs_ruletext.specs.Readers.{table, begins_tree, IsTreeSort, BeginsTree, IsRead, IsReadSoFar, Ends, condition_if_any}
+use Rattle.qs_ruletext.specs.Readers.{table, begins_tree, IsTreeSort, BeginsTree, IsRead, IsReadSoFar, Ends, condition_if_any, ACond, ACondIfGiven, ASide, AWrittenRule}
 use Rattle.qs_ruletext.proofs.Tables.{more, all_ok}
 use Rattle.qs_ruletext.proofs.Whole.{rules_whole}
 
@@ -29,28 +27,22 @@ use Rattle.qs_ruletext.proofs.Whole.{rules_whole}
 none_given : (names : List (List ℕ)) (text : List ℕ) (ts rest : List Token) → Nothing names text ts rest → ReadsCondIfGiven names text ts None rest
 none_given names text ts rest nothing = no_cond
 
-pub read_no_cond : {r s : Reading} (names : List (List ℕ)) → Stays slash r s → IsRead condition_if_any (λ names text ts rest. ReadsCondIfGiven names text ts None rest) r s names names
+pub read_no_cond : {r s : Reading} (names : List (List ℕ)) → Stays slash r s → IsRead condition_if_any (ACondIfGiven None) r s names names
 read_no_cond names st = read_so none_given (left_out_read names st.none st)
 
-some_given : {c : Condition} (names : List (List ℕ)) (text : List ℕ) (ts rest : List Token) → Then (AToken slash) (λ names text ts rest. ReadsCond names text ts c rest) names text ts rest → ReadsCondIfGiven names text ts (Some c) rest
+some_given : {c : Condition} (names : List (List ℕ)) (text : List ℕ) (ts rest : List Token) → Then (AToken slash) (ACond c) names text ts rest → ReadsCondIfGiven names text ts (Some c) rest
 some_given names text ts rest (then (a_token s) c) = some_cond s c
 
-pub read_some_cond : {c : Condition} {r s u : Reading} {old new : List (List ℕ)} → Passes slash r s → IsRead (part cond) (λ names text ts rest. ReadsCond names text ts c rest) s u old new
-    → IsRead condition_if_any (λ names text ts rest. ReadsCondIfGiven names text ts (Some c) rest) r u old new
+pub read_some_cond : {c : Condition} {r s u : Reading} {old new : List (List ℕ)} → Passes slash r s → IsRead (part cond) (ACond c) s u old new
+    → IsRead condition_if_any (ACondIfGiven (Some c)) r u old new
 read_some_cond {old} p a = read_so some_given (member_read (then_read (token_read old refl p) a))
 
 pub ends_in_cond : {r s : Reading} {end : TextEnd} → Passes slash r s → Ends (part cond) s end → Ends condition_if_any r end
 ends_in_cond p e = member_ends p e
 
 -- a rule
-abbrev IsSide : Patterns → Reads
-IsSide ps names text ts rest = ReadsSide names text ts ps rest
-
-abbrev IsGiven : Option Condition → Reads
-IsGiven c names text ts rest = ReadsCondIfGiven names text ts c rest
-
 a_rule : {left right : Patterns} {c : Option Condition} (names : List (List ℕ)) (text : List ℕ) (ts rest : List Token)
-    → Then (IsSide left) (Then (AToken equals) (Then (IsSide right) (Then (IsGiven c) (AToken stop)))) names text ts rest → ReadsRule names text ts (record { left = left; right = right; condition = c }) rest
+    → Then (ASide left) (Then (AToken equals) (Then (ASide right) (Then (ACondIfGiven c) (AToken stop)))) names text ts rest → ReadsRule names text ts (record { left = left; right = right; condition = c }) rest
 a_rule names text ts rest (then l (then (a_token e) (then r (then g (a_token s))))) = reads_rule l e r g s
 
 module _ {L : Reads} {r s : Reading} {old first : List (List ℕ)} (left : IsRead (part side) L r s old first) where
@@ -73,10 +65,10 @@ ends_in_left e = part_ends (first_ends e)
 
 pub read_rule : {left right : Patterns} {c : Option Condition} {r s u v w x : Reading} {old first second new : List (List ℕ)} (raw : WrittenRule)
     → raw.rule ≡ record { left = left; right = right; condition = c } → raw.at ≡ cell_bytes (between x.tokens r.place x.place)
-    → IsRead (part side) (λ names text ts rest. ReadsSide names text ts left rest) r s old first → Passes equals s u
-    → IsRead (part side) (λ names text ts rest. ReadsSide names text ts right rest) u v first second
-    → IsRead condition_if_any (λ names text ts rest. ReadsCondIfGiven names text ts c rest) v w second new → Passes stop w x
-    → IsRead (part rule) (λ names text ts rest. ReadsWrittenRule names text ts raw rest) r x old new
+    → IsRead (part side) (ASide left) r s old first → Passes equals s u
+    → IsRead (part side) (ASide right) u v first second
+    → IsRead condition_if_any (ACondIfGiven c) v w second new → Passes stop w x
+    → IsRead (part rule) (AWrittenRule raw) r x old new
 read_rule {r} {x} {first} {new} raw e at l p m g q =
     let whole = read_so a_rule (then_read l (then_read (token_read first refl p) (then_read m (then_read g (token_read new refl q))))) in
     let on = whole.goes_on in
@@ -150,9 +142,9 @@ module _ {text : List ℕ} {tokens : List Token} {from : ℕ} (rules : List Writ
       let c = subst (λ us. begun.CannotGoOn line (part rule) us s.place at) so_far.goes_on.tokens (cannot_go_on table more all_ok (part rule) tt (λ k. refl) e) in
       let past : s.place ≡ at → ⊥ =
       λ same.
-          let there : slice_get tokens at ≡ Some begins.token = next_at tokens begins.next.behind at begins.token (ap (λ k. drop k tokens) (sym same) ∙ sym behind ∙ begins.next.are) in
-          let none : between tokens s.place at ≡ [] = ap (λ k. take k (drop s.place tokens)) (let gone : at - s.place ≡ 0 = omega (arith, same) in gone) in
-          c.no_further begins.token there (subst (λ us. Begins line (part rule) (us ++ begins.token ∷ [])) (sym none) (tree_begins_rule begins.token begins.of_sort))
+      let there : slice_get tokens at ≡ Some begins.token = next_at tokens begins.next.behind at begins.token (ap (λ k. drop k tokens) (sym same) ∙ sym behind ∙ begins.next.are) in
+      let none : between tokens s.place at ≡ [] = ap (λ k. take k (drop s.place tokens)) (let gone : at - s.place ≡ 0 = omega (arith, same) in gone) in
+      c.no_further begins.token there (subst (λ us. Begins line (part rule) (us ++ begins.token ∷ [])) (sym none) (tree_begins_rule begins.token begins.of_sort))
       in
       record {
         begun = s.place;

@@ -1,16 +1,15 @@
 -- The steps of the readers of trees, lists and sides.
-use Rattle.std.proofs.Common.{◌≡◌, ℕ, ◌+◌, Bool, true, false, refl, sym, ◌∙◌, ap, subst, List, [], ◌∷◌, ◌++◌, arith}
+use Rattle.std.proofs.Common.{◌≡◌, ℕ, ◌+◌, Bool, true, false, refl, sym, ◌∙◌, ap, subst, List, arith}
 use Rattle.std.specs.Prelude.{not}
 use Rattle.std.proofs.lemmas.Bool.{false≢true}
 use Rattle.std.proofs.lemmas.Bool.Decides.{nat_tests}
 use Rattle.qs_lex.specs.declared.token.Token.{Token}
 use Rattle.qs_lex.specs.declared.token.Kind.{Kind}
 use Rattle.qs_lex.specs.declared.token.Kind.TheVariants.{Bare, Quoted, Variable, Node, Word as a_word, Opening, Closing, Comma, Plus, Slash, Equals, Stop}
-use Rattle.qs_lex.specs.Tokens.{IsTokenOf, bytes_of}
+use Rattle.qs_lex.specs.Tokens.{bytes_of}
 use Rattle.qs_lex.specs.Spelling.{Spells}
-use Rattle.qs_lex.specs.Grammar.{Sort, a_label as the_label, a_label_variable, a_tree_variable, a_forest_variable, opening, closing, variable_sort, sort_of, part}
-use Rattle.qs_lex.specs.Expecting.{same_sort}
-use Rattle.qs_lex.specs.working.Expecting.{Apart}
+use Rattle.qs_lex.specs.Grammar.{a_label as the_label, a_label_variable, a_tree_variable, a_forest_variable, opening, closing, variable_sort, sort_of, part}
+use Rattle.qs_lex.specs.Expecting.{same_sort, Apart}
 use Rattle.qs_lex.proofs.Predictive.{next_neither}
 use Rattle.qs_lex.proofs.Predicting.{apart_is}
 use Rattle.qs_lex.proofs.Readings.{token_stands}
@@ -19,19 +18,17 @@ use Rattle.qs_pattern.specs.declared.variable.VarClass.{VarClass}
 use Rattle.qs_pattern.specs.declared.variable.VarClass.TheVariants as class
 use Rattle.qs_pattern.specs.declared.pattern.Head.{Head}
 use Rattle.qs_pattern.specs.declared.pattern.Head.TheVariants as head
-use Rattle.qs_pattern.specs.declared.pattern.Pattern.{Pattern}
 use Rattle.qs_pattern.specs.Classes.{IsClassOf}
-use Rattle.qs_pattern.specs.Patterns.{Patterns, no_pattern, node_first, tree_var_first, forest_var_first, patterns}
-use Rattle.qs_pattern.specs.working.Patterns.{one_pattern}
+use Rattle.qs_pattern.specs.Patterns.{Patterns, no_pattern, node_first, tree_var_first, forest_var_first}
 use Rattle.qs_tree.specs.declared.cell.Label.{Label}
 use Rattle.qs_reader.specs.declared.text_end.TextEnd.{TextEnd}
-use Rattle.qs_reader.specs.Readers.{Reading, rest_of, IsNext, IsPassed, Passes, Stays, NamesLabel, EndsHere, Reads, AToken, a_token, ALabel, a_label, Nothing, nothing, Then, then}
+use Rattle.qs_reader.specs.Readers.{Reading, rest_of, IsNext, Passes, Stays, NamesLabel, EndsHere, Reads, AToken, a_token, ALabel, a_label, Nothing, nothing, Then, then}
 use Rattle.qs_reader.proofs.Tokens.{passed, other_next}
 pub use Rattle.qs_reader.proofs.Tokens.{label_sort}
-use Rattle.qs_reader.proofs.Steps.{passed_read, token_read, label_read, left_out_read, absent_read, then_read, read_so, this_read, other_read, member_read, part_read, stayed_read, stayed_here, stayed_ends, ends_here, token_ends, part_ends, first_ends, then_ends, this_ends, other_ends, member_ends, before_ends}
-use Rattle.qs_ruletext.specs.Reading.{IsHeadOf, ReadsTree, reads_node, reads_tree_variable, ReadsSubtrees, no_parentheses, nothing_inside, list_inside, ReadsList, ReadsItem, reads_tree, reads_forest_variable}
-use Rattle.qs_ruletext.specs.Grammar.{tree, list, item, line}
-use Rattle.qs_ruletext.specs.Readers.{table, begins_tree, begins_item, IsRead, Ends, IsGood, is_variable, sort_of_class, PassesVariable, a_head, in_parentheses, ReadsHead, reads_head}
+use Rattle.qs_reader.proofs.Steps.{passed_read, token_read, label_read, left_out_read, absent_read, then_read, read_so, this_read, other_read, member_read, part_read, stayed_read, stayed_here, stayed_ends, ends_here, token_ends, part_ends, first_ends, then_ends, this_ends, member_ends, before_ends}
+use Rattle.qs_ruletext.specs.Reading.{ReadsTree, reads_node, reads_tree_variable, ReadsSubtrees, no_parentheses, nothing_inside, list_inside, reads_tree, reads_forest_variable}
+use Rattle.qs_ruletext.specs.Grammar.{tree, list, item}
+use Rattle.qs_ruletext.specs.Readers.{IsRead, Ends, IsGood, is_variable, sort_of_class, PassesVariable, a_head, in_parentheses, ReadsHead, reads_head, AList, ATree, AnItem, Subtrees}
 
 -- variables
 pub spelled_good : (kind : Kind) (bytes : List ℕ) → Spells kind bytes → IsGood kind
@@ -106,23 +103,23 @@ ends_at_head {r} st e = ends_here refl (λ n. next_neither (same_sort the_label)
 nothing_there : (kids : Patterns) → kids ≡ no_pattern → (names : List (List ℕ)) (text : List ℕ) (ts rest : List Token) → Nothing names text ts rest → ReadsSubtrees names text ts kids rest
 nothing_there kids e names text ts rest nothing = subst (λ p. ReadsSubtrees names text ts p rest) (sym e) no_parentheses
 
-pub read_no_subtrees : {r s : Reading} (names : List (List ℕ)) (kids : Patterns) → kids ≡ no_pattern → Stays opening r s → IsRead in_parentheses (λ names text ts rest. ReadsSubtrees names text ts kids rest) r s names names
+pub read_no_subtrees : {r s : Reading} (names : List (List ℕ)) (kids : Patterns) → kids ≡ no_pattern → Stays opening r s → IsRead in_parentheses (Subtrees kids) r s names names
 read_no_subtrees names kids e st = read_so (nothing_there kids e) (left_out_read names st.none st)
 
 nothing_in_them : (kids : Patterns) → kids ≡ no_pattern → (names : List (List ℕ)) (text : List ℕ) (ts rest : List Token) → Then (AToken opening) (Then Nothing (AToken closing)) names text ts rest → ReadsSubtrees names text ts kids rest
 nothing_in_them kids e names text ts rest (then (a_token o) (then nothing (a_token c))) = subst (λ p. ReadsSubtrees names text ts p rest) (sym e) (nothing_inside o c)
 
 pub read_nothing_inside : {r s u : Reading} (names : List (List ℕ)) (kids : Patterns) → kids ≡ no_pattern → Passes opening r s → Passes closing s u
-    → IsRead in_parentheses (λ names text ts rest. ReadsSubtrees names text ts kids rest) r u names names
+    → IsRead in_parentheses (Subtrees kids) r u names names
 read_nothing_inside names kids e p q = read_so (nothing_in_them kids e) (member_read (then_read (token_read names refl p) (then_read (absent_read names refl q) (token_read names refl q))))
 
-list_in_them : {kids : Patterns} (names : List (List ℕ)) (text : List ℕ) (ts rest : List Token) → Then (AToken opening) (Then (λ names text ts rest. ReadsList names text ts kids rest) (AToken closing)) names text ts rest
+list_in_them : {kids : Patterns} (names : List (List ℕ)) (text : List ℕ) (ts rest : List Token) → Then (AToken opening) (Then (AList kids) (AToken closing)) names text ts rest
     → ReadsSubtrees names text ts kids rest
 list_in_them names text ts rest (then (a_token o) (then l (a_token c))) = list_inside o l c
 
 pub read_list_inside : {kids : Patterns} {r s u v w : Reading} {old new : List (List ℕ)} → Passes opening r s → Stays closing s u
-    → IsRead (part list) (λ names text ts rest. ReadsList names text ts kids rest) u v old new → Passes closing v w
-    → IsRead in_parentheses (λ names text ts rest. ReadsSubtrees names text ts kids rest) r w old new
+    → IsRead (part list) (AList kids) u v old new → Passes closing v w
+    → IsRead in_parentheses (Subtrees kids) r w old new
 read_list_inside {old} {new} p st a q = read_so list_in_them (member_read (then_read (token_read old refl p) (then_read (stayed_read st (member_read a)) (token_read new refl q))))
 
 pub ends_in_list : {r s u : Reading} {end : TextEnd} → Passes opening r s → Stays closing s u → Ends (part list) u end → Ends in_parentheses r end
@@ -134,16 +131,16 @@ ends_unclosed p st a e = member_ends p (then_ends (stayed_read st (member_read a
 
 -- a tree
 pub read_tree_variable : {v : Var} {r s : Reading} (names : List (List ℕ)) → PassesVariable a_tree_variable v r s
-    → IsRead (part tree) (λ names text ts rest. ReadsTree names text ts (tree_var_first v no_pattern) rest) r s names names
+    → IsRead (part tree) (ATree (tree_var_first v no_pattern)) r s names names
 read_tree_variable names p = part_read (other_read (passed_read names refl p.is.of_sort (λ later. reads_tree_variable p.is) p.passed))
 
 node_of : {h : Head} {kids : Patterns} (p : Patterns) → p ≡ node_first h kids no_pattern → (names : List (List ℕ)) (text : List ℕ) (ts rest : List Token)
-    → Then (ReadsHead h) (λ names text ts rest. ReadsSubtrees names text ts kids rest) names text ts rest → ReadsTree names text ts p rest
+    → Then (ReadsHead h) (Subtrees kids) names text ts rest → ReadsTree names text ts p rest
 node_of p e names text ts rest (then (reads_head is) below) = subst (λ q. ReadsTree names text ts q rest) (sym e) (reads_node is below)
 
 pub read_node : {h : Head} {kids : Patterns} {r s u v : Reading} {old middle new : List (List ℕ)} (p : Patterns) → p ≡ node_first h kids no_pattern → Stays a_tree_variable r s
-    → IsRead a_head (ReadsHead h) s u old middle → IsRead in_parentheses (λ names text ts rest. ReadsSubtrees names text ts kids rest) u v middle new
-    → IsRead (part tree) (λ names text ts rest. ReadsTree names text ts p rest) r v old new
+    → IsRead a_head (ReadsHead h) s u old middle → IsRead in_parentheses (Subtrees kids) u v middle new
+    → IsRead (part tree) (ATree p) r v old new
 read_node p e st a b = stayed_read st (part_read (this_read (read_so (node_of p e) (then_read a b))))
 
 pub ends_in_head : {r s : Reading} {end : TextEnd} → Stays a_tree_variable r s → Ends a_head s end → Ends (part tree) r end
@@ -154,11 +151,11 @@ ends_in_subtrees st a e = part_ends (this_ends st.none (then_ends (stayed_read s
 
 -- an item
 pub read_forest_variable : {v : Var} {r s : Reading} (names : List (List ℕ)) → PassesVariable a_forest_variable v r s
-    → IsRead (part item) (λ names text ts rest. ReadsItem names text ts (forest_var_first v no_pattern) rest) r s names names
+    → IsRead (part item) (AnItem (forest_var_first v no_pattern)) r s names names
 read_forest_variable names p = part_read (other_read (passed_read names refl p.is.of_sort (λ later. reads_forest_variable p.is) p.passed))
 
-pub read_item : {p : Patterns} {r s u : Reading} {old new : List (List ℕ)} → Stays a_forest_variable r s → IsRead (part tree) (λ names text ts rest. ReadsTree names text ts p rest) s u old new
-    → IsRead (part item) (λ names text ts rest. ReadsItem names text ts p rest) r u old new
+pub read_item : {p : Patterns} {r s u : Reading} {old new : List (List ℕ)} → Stays a_forest_variable r s → IsRead (part tree) (ATree p) s u old new
+    → IsRead (part item) (AnItem p) r u old new
 read_item st a = stayed_read st (part_read (this_read (read_so (λ names text ts rest x. reads_tree x) a)))
 
 pub ends_in_tree : {r s : Reading} {end : TextEnd} → Stays a_forest_variable r s → Ends (part tree) s end → Ends (part item) r end

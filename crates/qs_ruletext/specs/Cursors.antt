@@ -4,18 +4,15 @@ use Rattle.std.specs.Prelude.{◌≡◌, ℕ, ◌+◌, ◌≤◌, ◌⊎◌, Boo
 use Rattle.qs_lex.specs.declared.token.Token.{Token}
 use Rattle.qs_lex.specs.declared.token.Kind.{Kind}
 use Rattle.qs_lex.specs.declared.token.Kind.TheVariants.{Bare, Quoted, Variable, Node}
-use Rattle.qs_lex.specs.declared.token.Word.TheVariants.{Non}
 use Rattle.qs_lex.specs.Tokens.{IsTokenOf}
-use Rattle.qs_lex.specs.Grammar.{Sort, a_label, a_label_variable, a_tree_variable, a_forest_variable, the_word, opening, sort_of, IsOf, Form}
-use Rattle.qs_lex.specs.Expecting.{same_sort, NextIsNo}
-use Rattle.qs_lex.specs.working.Expecting.{Refuse, Leads, Stops}
+use Rattle.qs_lex.specs.Grammar.{Sort, a_label, a_label_variable, a_tree_variable, a_forest_variable, sort_of, IsOf, Form}
+use Rattle.qs_lex.specs.Expecting.{same_sort, NextIsNo, Refuse, Leads, Stops}
 use Rattle.qs_pattern.specs.declared.variable.Var.{Var}
-use Rattle.qs_pattern.specs.Letters.{IsVariable}
 use Rattle.qs_ruletext.specs.declared.cursor.Start.{Start}
 use Rattle.qs_ruletext.specs.declared.cursor.Start.TheVariants.{Label, LabelVariable, TreeVariable, ForestVariable}
 use Rattle.qs_ruletext.specs.declared.cursor.Halt.{Halt}
 use Rattle.qs_ruletext.specs.declared.cursor.Halt.TheVariants.{Syntax, Memory}
-use Rattle.qs_ruletext.specs.Grammar.{Part, rule, side, tree, list, item, cond, conj, neg, prim, line}
+use Rattle.qs_ruletext.specs.Grammar.{Part, line}
 use Rattle.qs_pattern.specs.declared.pattern.Head.{Head}
 use Rattle.qs_ruletext.specs.Reading.{IsVariableOf, IsHeadOf}
 use Rattle.qs_ruletext.specs.Rules.{KeepsNames}

@@ -1,21 +1,25 @@
 -- No public contract cites this: what the private functions of the reader promise.
-use Rattle.std.specs.Prelude.{◌≡◌, ℕ, ◌⊎◌, Bool, true, false, ◌||◌, List, ◌∷◌}
+use Rattle.std.specs.Prelude.{◌≡◌, ℕ, ◌⊎◌, Bool, true, false, ◌||◌, List, ◌∷◌, Option}
 use Rattle.qs_lex.specs.declared.token.Token.{Token}
 use Rattle.qs_lex.specs.declared.token.Kind.{Kind}
 use Rattle.qs_lex.specs.declared.token.Kind.TheVariants.{Variable}
 use Rattle.qs_lex.specs.declared.token.Word.TheVariants.{Dans, Hors, Non}
-use Rattle.qs_lex.specs.Grammar.{Sort, a_label, a_label_variable, a_tree_variable, a_forest_variable, the_word, opening, closing, slash, sort_of, IsOf, Form, one, part, ◌·◌, ◌∣◌, optional}
+use Rattle.qs_lex.specs.Grammar.{Sort, a_label, a_label_variable, a_tree_variable, a_forest_variable, the_word, opening, closing, slash, sort_of, Form, one, part, ◌·◌, ◌∣◌, optional}
 use Rattle.qs_lex.specs.Expecting.{same_sort}
 use Rattle.qs_pattern.specs.declared.variable.Var.{Var}
 use Rattle.qs_pattern.specs.declared.variable.VarClass.{VarClass}
 use Rattle.qs_pattern.specs.declared.variable.VarClass.TheVariants as class
 use Rattle.qs_pattern.specs.declared.pattern.Head.{Head}
+use Rattle.qs_pattern.specs.Patterns.{Patterns}
+use Rattle.qs_pattern.specs.Conditions.{Condition}
 use Rattle.qs_pattern.specs.Letters.{IsVariable}
 use Rattle.qs_reader.specs.declared.text_end.TextEnd.{TextEnd}
 use Rattle.qs_reader.specs.Readers.{Reading, Reads, IsNext, IsPassed}
 use Rattle.qs_reader.specs.Readers as reader
 use Rattle.qs_ruletext.specs.Grammar.{Part, rule, side, tree, list, item, cond, conj, neg, prim, line}
-use Rattle.qs_ruletext.specs.Reading.{IsVariableOf, IsHeadOf}
+use Rattle.qs_ruletext.specs.Reading.{IsVariableOf, IsHeadOf, ReadsTree, ReadsSubtrees, ReadsList, ReadsItem, ReadsSide, ReadsCond, ReadsConj, ReadsNeg, ReadsPrim}
+use Rattle.qs_ruletext.specs.WrittenRules.{WrittenRule}
+use Rattle.qs_ruletext.specs.Rules.{ReadsCondIfGiven, ReadsWrittenRule}
 
 -- which sorts the parts may begin with
 abbrev pub begins_tree : Sort → Bool
@@ -101,3 +105,37 @@ condition_if_any = optional (one slash · part cond)
 
 pub data ReadsHead (head : Head) (names : List (List ℕ)) (text : List ℕ) : List Token → List Token → Type 0 where
   reads_head : {t : Token} {rest : List Token} → IsHeadOf names text t head → ReadsHead head names text (t ∷ rest) rest
+
+-- What is read from the tokens of each part, as a relation of tokens.
+abbrev pub ATree : Patterns → Reads
+ATree p names text ts rest = ReadsTree names text ts p rest
+
+abbrev pub Subtrees : Patterns → Reads
+Subtrees kids names text ts rest = ReadsSubtrees names text ts kids rest
+
+abbrev pub AList : Patterns → Reads
+AList ps names text ts rest = ReadsList names text ts ps rest
+
+abbrev pub AnItem : Patterns → Reads
+AnItem p names text ts rest = ReadsItem names text ts p rest
+
+abbrev pub ASide : Patterns → Reads
+ASide ps names text ts rest = ReadsSide names text ts ps rest
+
+abbrev pub ACond : Condition → Reads
+ACond c names text ts rest = ReadsCond names text ts c rest
+
+abbrev pub AConj : Condition → Reads
+AConj c names text ts rest = ReadsConj names text ts c rest
+
+abbrev pub ANeg : Condition → Reads
+ANeg c names text ts rest = ReadsNeg names text ts c rest
+
+abbrev pub APrim : Condition → Reads
+APrim c names text ts rest = ReadsPrim names text ts c rest
+
+abbrev pub ACondIfGiven : Option Condition → Reads
+ACondIfGiven c names text ts rest = ReadsCondIfGiven names text ts c rest
+
+abbrev pub AWrittenRule : WrittenRule → Reads
+AWrittenRule raw names text ts rest = ReadsWrittenRule names text ts raw rest

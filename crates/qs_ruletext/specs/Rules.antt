@@ -1,5 +1,5 @@
 -- What is read from the tokens of rules, and where rules can't go on.
-use Rattle.std.specs.Prelude.{◌≡◌, ℕ, ◌-◌, ◌<◌, ◌≤◌, Bool, true, false, List, [], ◌∷◌, ◌++◌, length, take, drop, map, filter, Option, Some, None, slice_get}
+use Rattle.std.specs.Prelude.{◌≡◌, ℕ, ◌<◌, ◌≤◌, Bool, true, false, List, [], ◌∷◌, ◌++◌, length, drop, map, filter, Option, Some, None, slice_get}
 use Rattle.qs_lex.specs.declared.token.Token.{Token}
 use Rattle.qs_lex.specs.declared.token.Kind.{Kind}
 use Rattle.qs_lex.specs.declared.token.Kind.TheVariants.{Bare, Quoted, Variable}

@@ -7,8 +7,8 @@ ghost use Rattle.qs_pattern.specs.working.Conditions.{conditions};
 ghost use Rattle.qs_reader.specs.Names.{KeepsNames};
 ghost use Rattle.qs_reader.specs.Readers.{rest_of};
 ghost use Rattle.qs_ruletext.specs.Grammar.{cond, conj, neg, prim};
-ghost use Rattle.qs_ruletext.specs.Reading.{any_of, all_of, ReadsCond, ReadsConj, ReadsNeg, ReadsPrim};
-ghost use Rattle.qs_ruletext.specs.Readers.{a_comparison, IsRead, Ends};
+ghost use Rattle.qs_ruletext.specs.Reading.{any_of, all_of};
+ghost use Rattle.qs_ruletext.specs.Readers.{a_comparison, IsRead, Ends, ACond, AConj, ANeg, APrim};
 
 use crate::sides::list;
 use qs_lex::{Kind, Word};
@@ -45,7 +45,8 @@ fn first_or_all(first: Cond, more: Vec<Cond>) -> Result<Cond, AllocError>
 fn comparison(reader: &mut Reader<'_>, names: &mut Names) -> Result<Cond, TextEnd>
     requires room { length names.old + length (rest_of reader.old) < 2 ^ 32 }
     ensures keeps { KeepsNames names.old names.new }
-    ensures read { IfOk result (λ found. IsRead a_comparison (λ names text ts rest. ReadsPrim names text ts (condition_of found) rest) reader.old reader.new names.old names.new) }
+    ensures read { IfOk result
+        (λ found. IsRead a_comparison (APrim (condition_of found)) reader.old reader.new names.old names.new) }
     ensures ends { IfErr result (Ends a_comparison reader.old) }
 {
     let a = list(reader, names)?;
@@ -63,7 +64,8 @@ fn comparison(reader: &mut Reader<'_>, names: &mut Names) -> Result<Cond, TextEn
 fn primary(reader: &mut Reader<'_>, names: &mut Names) -> Result<Cond, TextEnd>
     requires room { length names.old + length (rest_of reader.old) < 2 ^ 32 }
     ensures keeps { KeepsNames names.old names.new }
-    ensures read { IfOk result (λ found. IsRead (part prim) (λ names text ts rest. ReadsPrim names text ts (condition_of found) rest) reader.old reader.new names.old names.new) }
+    ensures read { IfOk result
+        (λ found. IsRead (part prim) (APrim (condition_of found)) reader.old reader.new names.old names.new) }
     ensures ends { IfErr result (Ends (part prim) reader.old) }
 {
     if !reader.pass(Kind::Opening) {
@@ -79,7 +81,8 @@ fn primary(reader: &mut Reader<'_>, names: &mut Names) -> Result<Cond, TextEnd>
 fn negation(reader: &mut Reader<'_>, names: &mut Names) -> Result<Cond, TextEnd>
     requires room { length names.old + length (rest_of reader.old) < 2 ^ 32 }
     ensures keeps { KeepsNames names.old names.new }
-    ensures read { IfOk result (λ found. IsRead (part neg) (λ names text ts rest. ReadsNeg names text ts (condition_of found) rest) reader.old reader.new names.old names.new) }
+    ensures read { IfOk result
+        (λ found. IsRead (part neg) (ANeg (condition_of found)) reader.old reader.new names.old names.new) }
     ensures ends { IfErr result (Ends (part neg) reader.old) }
 {
     if !reader.pass(Kind::Word(Word::Non)) {
@@ -94,7 +97,8 @@ fn negation(reader: &mut Reader<'_>, names: &mut Names) -> Result<Cond, TextEnd>
 fn conjunction(reader: &mut Reader<'_>, names: &mut Names) -> Result<Cond, TextEnd>
     requires room { length names.old + length (rest_of reader.old) < 2 ^ 32 }
     ensures keeps { KeepsNames names.old names.new }
-    ensures read { IfOk result (λ found. IsRead (part conj) (λ names text ts rest. ReadsConj names text ts (condition_of found) rest) reader.old reader.new names.old names.new) }
+    ensures read { IfOk result
+        (λ found. IsRead (part conj) (AConj (condition_of found)) reader.old reader.new names.old names.new) }
     ensures ends { IfErr result (Ends (part conj) reader.old) }
 {
     let first = negation(reader, names)?;
@@ -111,7 +115,8 @@ fn conjunction(reader: &mut Reader<'_>, names: &mut Names) -> Result<Cond, TextE
 pub fn condition(reader: &mut Reader<'_>, names: &mut Names) -> Result<Cond, TextEnd>
     requires room { length names.old + length (rest_of reader.old) < 2 ^ 32 }
     ensures keeps { KeepsNames names.old names.new }
-    ensures read { IfOk result (λ found. IsRead (part cond) (λ names text ts rest. ReadsCond names text ts (condition_of found) rest) reader.old reader.new names.old names.new) }
+    ensures read { IfOk result
+        (λ found. IsRead (part cond) (ACond (condition_of found)) reader.old reader.new names.old names.new) }
     ensures ends { IfErr result (Ends (part cond) reader.old) }
 {
     let first = conjunction(reader, names)?;

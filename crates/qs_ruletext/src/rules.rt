@@ -10,8 +10,8 @@ ghost use Rattle.qs_pattern.specs.Conditions.{condition_of};
 ghost use Rattle.qs_reader.specs.Names.{KeepsNames, NamesGrow};
 ghost use Rattle.qs_reader.specs.Readers.{rest_of, between};
 ghost use Rattle.qs_ruletext.specs.Grammar.{rule, line};
-ghost use Rattle.qs_ruletext.specs.Rules.{ReadsCondIfGiven, ReadsWrittenRule, ReadsRules, is_cell, cell_bytes, CannotGoOn, NoRuleAt, EndsFrom, IsWellRead};
-ghost use Rattle.qs_ruletext.specs.Readers.{condition_if_any, IsRead, Ends};
+ghost use Rattle.qs_ruletext.specs.Rules.{ReadsRules, is_cell, cell_bytes, CannotGoOn, NoRuleAt, EndsFrom, IsWellRead};
+ghost use Rattle.qs_ruletext.specs.Readers.{condition_if_any, IsRead, Ends, ACondIfGiven, AWrittenRule};
 
 use crate::conditions::condition;
 use crate::raw::RawRule;
@@ -26,7 +26,9 @@ use std::alloc::{AllocError, Global};
 fn condition_if_given(reader: &mut Reader<'_>, names: &mut Names) -> Result<Option<Cond>, TextEnd>
     requires room { length names.old + length (rest_of reader.old) < 2 ^ 32 }
     ensures keeps { KeepsNames names.old names.new }
-    ensures read { IfOk result (λ found. IsRead condition_if_any (λ names text ts rest. ReadsCondIfGiven names text ts (option_map condition_of found) rest) reader.old reader.new names.old names.new) }
+    ensures read { IfOk result
+        (λ found. IsRead condition_if_any (ACondIfGiven (option_map condition_of found)) reader.old reader.new
+        names.old names.new) }
     ensures ends { IfErr result (Ends condition_if_any reader.old) }
 {
     if !reader.pass(Kind::Slash) {
@@ -60,7 +62,8 @@ fn bytes_of_cells(alloc: Global, tokens: &[Token]) -> Result<Vec<u32>, AllocErro
 fn rule(reader: &mut Reader<'_>, names: &mut Names) -> Result<RawRule, TextEnd>
     requires room { length names.old + length (rest_of reader.old) < 2 ^ 32 }
     ensures keeps { KeepsNames names.old names.new }
-    ensures read { IfOk result (λ raw. IsRead (part rule) (λ names text ts rest. ReadsWrittenRule names text ts raw rest) reader.old reader.new names.old names.new) }
+    ensures read { IfOk result
+        (λ raw. IsRead (part rule) (AWrittenRule raw) reader.old reader.new names.old names.new) }
     ensures shorter { IfOk result (λ _. length (rest_of reader.new) < length (rest_of reader.old)) }
     ensures ends { IfErr result (Ends (part rule) reader.old) }
 {

@@ -8,8 +8,7 @@ ghost use Rattle.qs_pattern.specs.working.Patterns.{one_pattern};
 ghost use Rattle.qs_reader.specs.Names.{KeepsNames};
 ghost use Rattle.qs_reader.specs.Readers.{rest_of, IsNext, Stays};
 ghost use Rattle.qs_ruletext.specs.Grammar.{tree, list, item, side};
-ghost use Rattle.qs_ruletext.specs.Reading.{ReadsTree, ReadsSubtrees, ReadsList, ReadsItem, ReadsSide};
-ghost use Rattle.qs_ruletext.specs.Readers.{is_variable, IsGood, sort_of_class, PassesVariable, begins_tree, IsTreeSort, BeginsTree, a_head, in_parentheses, ReadsHead, IsRead, Ends};
+ghost use Rattle.qs_ruletext.specs.Readers.{is_variable, IsGood, sort_of_class, PassesVariable, begins_tree, IsTreeSort, BeginsTree, a_head, in_parentheses, ReadsHead, IsRead, Ends, AList, ASide, ATree, AnItem, Subtrees};
 
 use qs_lex::Kind;
 use qs_pattern::{Head, Pattern, Var, VarClass};
@@ -83,7 +82,8 @@ fn head(reader: &mut Reader<'_>, names: &mut Names) -> Result<Head, TextEnd>
 fn subtrees(reader: &mut Reader<'_>, names: &mut Names) -> Result<Vec<Pattern>, TextEnd>
     requires room { length names.old + length (rest_of reader.old) < 2 ^ 32 }
     ensures keeps { KeepsNames names.old names.new }
-    ensures read { IfOk result (λ kids. IsRead in_parentheses (λ names text ts rest. ReadsSubtrees names text ts (patterns kids.items) rest) reader.old reader.new names.old names.new) }
+    ensures read { IfOk result
+        (λ kids. IsRead in_parentheses (Subtrees (patterns kids.items)) reader.old reader.new names.old names.new) }
     ensures ends { IfErr result (Ends in_parentheses reader.old) }
 {
     if !reader.pass(Kind::Opening) {
@@ -102,7 +102,8 @@ fn subtrees(reader: &mut Reader<'_>, names: &mut Names) -> Result<Vec<Pattern>, 
 fn tree(reader: &mut Reader<'_>, names: &mut Names) -> Result<Pattern, TextEnd>
     requires room { length names.old + length (rest_of reader.old) < 2 ^ 32 }
     ensures keeps { KeepsNames names.old names.new }
-    ensures read { IfOk result (λ found. IsRead (part tree) (λ names text ts rest. ReadsTree names text ts (one_pattern found) rest) reader.old reader.new names.old names.new) }
+    ensures read { IfOk result
+        (λ found. IsRead (part tree) (ATree (one_pattern found)) reader.old reader.new names.old names.new) }
     ensures ends { IfErr result (Ends (part tree) reader.old) }
 {
     if let Some(var) = variable(reader, VarClass::Tree) {
@@ -118,7 +119,8 @@ fn tree(reader: &mut Reader<'_>, names: &mut Names) -> Result<Pattern, TextEnd>
 fn item(reader: &mut Reader<'_>, names: &mut Names) -> Result<Pattern, TextEnd>
     requires room { length names.old + length (rest_of reader.old) < 2 ^ 32 }
     ensures keeps { KeepsNames names.old names.new }
-    ensures read { IfOk result (λ one. IsRead (part item) (λ names text ts rest. ReadsItem names text ts (one_pattern one) rest) reader.old reader.new names.old names.new) }
+    ensures read { IfOk result
+        (λ one. IsRead (part item) (AnItem (one_pattern one)) reader.old reader.new names.old names.new) }
     ensures ends { IfErr result (Ends (part item) reader.old) }
 {
     match variable(reader, VarClass::Forest) {
@@ -132,7 +134,8 @@ fn item(reader: &mut Reader<'_>, names: &mut Names) -> Result<Pattern, TextEnd>
 pub fn list(reader: &mut Reader<'_>, names: &mut Names) -> Result<Vec<Pattern>, TextEnd>
     requires room { length names.old + length (rest_of reader.old) < 2 ^ 32 }
     ensures keeps { KeepsNames names.old names.new }
-    ensures read { IfOk result (λ found. IsRead (part list) (λ names text ts rest. ReadsList names text ts (patterns found.items) rest) reader.old reader.new names.old names.new) }
+    ensures read { IfOk result
+        (λ found. IsRead (part list) (AList (patterns found.items)) reader.old reader.new names.old names.new) }
     ensures ends { IfErr result (Ends (part list) reader.old) }
 {
     let first = item(reader, names)?;
@@ -148,7 +151,8 @@ pub fn list(reader: &mut Reader<'_>, names: &mut Names) -> Result<Vec<Pattern>, 
 pub fn side(reader: &mut Reader<'_>, names: &mut Names) -> Result<Vec<Pattern>, TextEnd>
     requires room { length names.old + length (rest_of reader.old) < 2 ^ 32 }
     ensures keeps { KeepsNames names.old names.new }
-    ensures read { IfOk result (λ found. IsRead (part side) (λ names text ts rest. ReadsSide names text ts (patterns found.items) rest) reader.old reader.new names.old names.new) }
+    ensures read { IfOk result
+        (λ found. IsRead (part side) (ASide (patterns found.items)) reader.old reader.new names.old names.new) }
     ensures ends { IfErr result (Ends (part side) reader.old) }
 {
     let first = tree(reader, names)?;
