@@ -9,7 +9,8 @@ use Rattle.qs_lex.specs.declared.token.Kind.TheVariants.{Bare, Quoted, Variable,
 use Rattle.qs_lex.specs.Tokens.{bytes_of}
 use Rattle.qs_lex.specs.Spelling.{Spells}
 use Rattle.qs_lex.specs.Grammar.{a_label as the_label, a_label_variable, a_tree_variable, a_forest_variable, opening, closing, variable_sort, sort_of, part}
-use Rattle.qs_lex.specs.Expecting.{same_sort, Apart}
+use Rattle.qs_lex.specs.Expecting.{same_sort}
+use Rattle.qs_lex.specs.working.Expecting.{Apart}
 use Rattle.qs_lex.proofs.Predictive.{next_neither}
 use Rattle.qs_lex.proofs.Predicting.{apart_is}
 use Rattle.qs_lex.proofs.Readings.{token_stands}

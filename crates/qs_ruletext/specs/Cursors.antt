@@ -6,7 +6,8 @@ use Rattle.qs_lex.specs.declared.token.Kind.{Kind}
 use Rattle.qs_lex.specs.declared.token.Kind.TheVariants.{Bare, Quoted, Variable, Node}
 use Rattle.qs_lex.specs.Tokens.{IsTokenOf}
 use Rattle.qs_lex.specs.Grammar.{Sort, a_label, a_label_variable, a_tree_variable, a_forest_variable, sort_of, IsOf, Form}
-use Rattle.qs_lex.specs.Expecting.{same_sort, NextIsNo, Refuse, Leads, Stops}
+use Rattle.qs_lex.specs.Expecting.{same_sort, NextIsNo}
+use Rattle.qs_lex.specs.working.Expecting.{Refuse, Leads, Stops}
 use Rattle.qs_pattern.specs.declared.variable.Var.{Var}
 use Rattle.qs_ruletext.specs.declared.cursor.Start.{Start}
 use Rattle.qs_ruletext.specs.declared.cursor.Start.TheVariants.{Label, LabelVariable, TreeVariable, ForestVariable}
