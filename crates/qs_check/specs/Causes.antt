@@ -42,12 +42,15 @@ pub record HasUnbound (cells : List Head) (left : List Var) (place : ℕ) : Type
   pub unbound : var ∈ left → ⊥
   pub bound_before : (v : Var) → v ∈ variables_among (take place cells) → v ∈ left
 
--- The first cause that applies and its cell: a side of more than 16 trees, the left side first; more than 256 cells; more
--- than 32 different variables; a variable that isn't in the left side.
+-- The first cause that applies and its cell: a side of more than 16 trees, the left side first; more than 256 cells;
+-- more than 32 different variables; a variable that isn't in the left side.
 pub data IsFirstCause (rule : UnmarkedRule) : Cause → ℕ → Type 0 where
   left_too_long : {place : ℕ} → Has17th rule.left place → IsFirstCause rule SideTooLong place
-  right_too_long : {place : ℕ} → count rule.left ≤ most_patterns → Has17th rule.right place → IsFirstCause rule SideTooLong (cells rule.left + place)
+  right_too_long : {place : ℕ} → count rule.left ≤ most_patterns → Has17th rule.right place
+      → IsFirstCause rule SideTooLong (cells rule.left + place)
   too_many_cells : HasShortSides rule → most_cells < rule_cells rule → IsFirstCause rule TooManyCells most_cells
-  too_many_variables : {place : ℕ} → HasShortSides rule → rule_cells rule ≤ most_cells → Has33rd (written_rule rule) place → IsFirstCause rule TooManyVariables place
+  too_many_variables : {place : ℕ} → HasShortSides rule → rule_cells rule ≤ most_cells
+      → Has33rd (written_rule rule) place → IsFirstCause rule TooManyVariables place
   unbound : {place : ℕ}
-      → HasShortSides rule → rule_cells rule ≤ most_cells → length (firsts (rule_variables rule)) ≤ most_variables → HasUnbound (written_rule rule) (variables_in rule.left) place → IsFirstCause rule Unbound place
+      → HasShortSides rule → rule_cells rule ≤ most_cells → length (firsts (rule_variables rule)) ≤ most_variables
+      → HasUnbound (written_rule rule) (variables_in rule.left) place → IsFirstCause rule Unbound place

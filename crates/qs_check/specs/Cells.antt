@@ -4,7 +4,8 @@ use Rattle.std.specs.List.{flat_map}
 use Rattle.qs_pattern.specs.declared.variable.Var.{Var}
 use Rattle.qs_pattern.specs.declared.pattern.Head.{Head}
 use Rattle.qs_pattern.specs.declared.pattern.Head.TheVariants as head
-use Rattle.qs_pattern.specs.Patterns.{Patterns, no_pattern, node_first, tree_var_first, forest_var_first, head_variables}
+use Rattle.qs_pattern.specs.Patterns.{Patterns, no_pattern, node_first, tree_var_first, forest_var_first}
+use Rattle.qs_pattern.specs.Patterns.{head_variables}
 use Rattle.qs_pattern.specs.Conditions.{Condition, over_lists}
 use Rattle.qs_pattern.specs.Rules.{UnmarkedRule}
 

@@ -14,7 +14,8 @@ use std::alloc::{AllocError, Global};
 
 /// The number, among the side's cells, of the root of its 17th tree. None where there are at most 16 trees.
 pub fn root_of_17th(alloc: Global, side: &[Pattern]) -> Result<Option<usize>, AllocError>
-    ensures { IfOk result (λ o. MatchOption o (count (patterns side.now) ≤ most_patterns) (λ place. Has17th (patterns side.now) place)) }
+    ensures { IfOk result
+        (λ o. MatchOption o (count (patterns side.now) ≤ most_patterns) (λ place. Has17th (patterns side.now) place)) }
 {
     if side.len() <= 16 {
         return Ok(None);
@@ -25,7 +26,8 @@ pub fn root_of_17th(alloc: Global, side: &[Pattern]) -> Result<Option<usize>, Al
 
 // The variable that the cell is, where it is one that isn't among the known ones.
 fn new_variable(cell: Head, known: &[Var]) -> Option<Var>
-    ensures { MatchOption result ((v : Var) → v ∈ head_variables cell → v ∈ known.now) (λ v. (cell ≡ Head.Var v) × (v ∈ known.now → ⊥)) }
+    ensures { MatchOption result ((v : Var) → v ∈ head_variables cell → v ∈ known.now) (λ v. (cell ≡ Head.Var v)
+        × (v ∈ known.now → ⊥)) }
 {
     match cell {
         Head::Label(_) => None,
@@ -41,7 +43,8 @@ fn new_variable(cell: Head, known: &[Var]) -> Option<Var>
 
 /// The number of the cell at which the 33rd different variable occurs first. None where there are at most 32.
 pub fn first_of_33rd(alloc: Global, cells: &[Head]) -> Result<Option<usize>, AllocError>
-    ensures { IfOk result (λ o. MatchOption o (length (firsts (variables_among cells.now)) ≤ most_variables) (λ place. Has33rd cells.now place)) }
+    ensures { IfOk result (λ o. MatchOption o (length (firsts (variables_among cells.now)) ≤ most_variables)
+        (λ place. Has33rd cells.now place)) }
 {
     let mut seen = Vec::new(alloc);
     for (place, cell) in cells.iter().enumerate() {
@@ -58,7 +61,8 @@ pub fn first_of_33rd(alloc: Global, cells: &[Head]) -> Result<Option<usize>, All
 
 /// The number of the first cell that is a variable other than these. None where there is none.
 pub fn first_unbound(cells: &[Head], bound: &[Var]) -> Option<usize>
-    ensures { MatchOption result ((v : Var) → v ∈ variables_among cells.now → v ∈ bound.now) (λ place. HasUnbound cells.now bound.now place) }
+    ensures { MatchOption result ((v : Var) → v ∈ variables_among cells.now → v ∈ bound.now)
+        (λ place. HasUnbound cells.now bound.now place) }
 {
     for (place, cell) in cells.iter().enumerate() {
         if let Some(_) = new_variable(*cell, bound) {

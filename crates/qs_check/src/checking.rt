@@ -71,8 +71,8 @@ fn first_cause(alloc: Global, raw: &RawRule) -> Result<Option<(Cause, usize)>, A
 
 /// The rule that was read, where it is accepted; else the first cause why it isn't, and the byte at which that cause
 /// applies: `SideTooLong` at the root of a side's 17th tree, the left side first; `TooManyCells` at the 257th label or
-/// variable; `TooManyVariables` where the 33rd different variable occurs first; `Unbound` at the first variable that isn't
-/// in the left side. The rule has the mark `unique`. One that isn't accepted is dropped.
+/// variable; `TooManyVariables` where the 33rd different variable occurs first; `Unbound` at the first variable that
+/// isn't in the left side. The rule has the mark `unique`. One that isn't accepted is dropped.
 pub fn check(alloc: Global, raw: RawRule, unique: bool) -> Result<Rule, CheckEnd>
     requires { CanBeChecked raw }
     ensures rule { IfOk result (λ rule. rule ≡ marked unique raw.rule) }

@@ -12,7 +12,7 @@ use Rattle.qs_check.specs.declared.checking.CheckEnd.TheVariants.{Refused, Memor
 use Rattle.qs_deck.specs.WrittenDecks.{WrittenSystem, rules_of}
 use Rattle.qs_deck.specs.declared.system.System.{System}
 use Rattle.qs_deck.specs.Decks.{Grammar, rule_of, grammar_of, meaning_of}
-use Rattle.qs_deck.specs.Checked.{AreAccepted, IsFirstRefused}
+use Rattle.qs_deck.specs.working.Checked.{AreAccepted, IsFirstRefused}
 
 -- a system's rules are fewer than a number of rules can be
 abbrev pub HasFewRules : WrittenSystem → Type 0

@@ -36,9 +36,9 @@ use Rattle.qs_deck.specs.Refusals.{IsGraphFault, too_many_arcs, cycle, entries, 
 use Rattle.qs_deck.proofs.Meanings as meaning
 use Rattle.qs_ruletext.specs.Grammar as rules
 use Rattle.qs_graphtext.specs.Grammar as graphs
-use Rattle.qs_deck.specs.Readers.{table}
+use Rattle.qs_deck.specs.working.Readers.{table}
 use Rattle.qs_deck.specs.Grammar.{Part, system, of_rules, of_graphs}
-use Rattle.qs_deck.specs.Checked.{IsFirstOf}
+use Rattle.qs_deck.specs.working.Checked.{IsFirstOf}
 use Rattle.qs_deck.proofs.Tables.{more, ok}
 use Rattle.qs_deck.proofs.Places.{cannot_go_on}
 use Rattle.qs_deck.proofs.WholeRead.{whole_is_read}

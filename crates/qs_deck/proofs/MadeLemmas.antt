@@ -20,7 +20,7 @@ use Rattle.qs_deck.specs.declared.system.System.{System}
 use Rattle.qs_deck.specs.Decks.{Grammar, grammar_of}
 use Rattle.qs_deck.specs.Named.{IsRuleNamed, IsSystemNamed, AreSystemsNamed}
 use Rattle.qs_deck.specs.MadeDecks.{level_name, word_name, levels, words, made_names, first_var, second_var, of_level, level_rule, made_grammar, word_tree, made_graph, level_line, words_text, made_text}
-use Rattle.qs_deck.specs.MadeParts.{numbered}
+use Rattle.qs_deck.specs.working.MadeParts.{numbered}
 
 -- numbers
 

@@ -39,8 +39,9 @@ use Rattle.qs_deck.specs.Checks.{IsChecked, IsCheckFault, too_many_systems, rule
 use Rattle.qs_deck.specs.Refusals.{too_many_arcs, cycle, entries, exits, tokens, check, graph, IsRefusalOf, EndsFor}
 use Rattle.qs_deck.specs.declared.deck.DeckEnd.{DeckEnd}
 use Rattle.qs_deck.specs.declared.deck.DeckEnd.TheVariants as deck_end
-use Rattle.qs_deck.specs.Answers.{end_of_tokens, end_of_check, end_of_chains, IsEndOf}
-use Rattle.qs_deck.specs.Checked.{IsFirstFault}
+use Rattle.qs_deck.specs.Answers.{end_of_tokens}
+use Rattle.qs_deck.specs.working.Answers.{end_of_check, end_of_chains, IsEndOf}
+use Rattle.qs_deck.specs.working.Checked.{IsFirstFault}
 use Rattle.qs_deck.proofs.CheckSteps.{HasFewRules}
 use Rattle.qs_deck.proofs.Borders.{spans, byte_border, few_tokens}
 use Rattle.qs_deck.proofs.WhatIsRead.{systems_can, systems_few, systems_later, rule_byte, word_byte, systems_named}

@@ -7,7 +7,7 @@ use Rattle.qs_lex.specs.Grammar.{a_label, the_word, stop, sort_of, IsOf}
 use Rattle.qs_ruletext.specs.Rules.{between}
 use Rattle.qs_ruletext.specs.Names.{AddsNameOf, NamesGrow}
 use Rattle.qs_ruletext.proofs.Naming.{grow_on}
-use Rattle.qs_deck.specs.Readers.{IsHeading}
+use Rattle.qs_deck.specs.working.Readers.{IsHeading}
 use Rattle.qs_ruletext.proofs.Between.{drop_twice}
 
 take_on : (us : List Token) (m n k : ℕ) → k ≡ m + n → take m us ++ take n (drop m us) ≡ take k us

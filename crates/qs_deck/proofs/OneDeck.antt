@@ -9,7 +9,7 @@ use Rattle.qs_lex.proofs.Expected.{begin_front}
 use Rattle.qs_tree.specs.Names.{AreDistinct}
 use Rattle.qs_ruletext.specs.WrittenRules.{WrittenRule}
 use Rattle.qs_ruletext.specs.Grammar.{rule}
-use Rattle.qs_ruletext.specs.Cursors.{table}
+use Rattle.qs_ruletext.specs.working.Readers.{table}
 use Rattle.qs_ruletext.specs.Endings.{NoRuleIn}
 use Rattle.qs_ruletext.proofs.Tables.{ok}
 use Rattle.qs_ruletext.proofs.OneReading.{one_label, one_sort, holds_not, same_token}

@@ -29,7 +29,7 @@ use Rattle.qs_deck.specs.WrittenDecks.{WrittenSystem, WrittenDeck}
 use Rattle.qs_deck.specs.Grammar.{deck, line}
 use Rattle.qs_deck.specs.Reading.{ReadsDeck}
 use Rattle.qs_deck.specs.Syntax.{CannotGoOn}
-use Rattle.qs_deck.specs.Checked.{AreAccepted}
+use Rattle.qs_deck.specs.working.Checked.{AreAccepted}
 use Rattle.qs_deck.specs.Checks.{IsChecked, IsCheckFault, too_many_systems, rule_not_accepted}
 use Rattle.qs_deck.specs.Decks.{Grammar, meaning_of, HasTokens, IsWritten, IsDeckOf}
 use Rattle.qs_deck.specs.Refusals.{byte_of, IsFirstTooDeep, IsGraphFault, too_many_arcs, cycle, entries, exits, IsFault, bytes, tokens, nesting, syntax, check, graph, IsRefusalOf}

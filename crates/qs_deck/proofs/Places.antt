@@ -23,8 +23,9 @@ use Rattle.qs_graphtext.proofs.Whole.{graph_whole}
 use Rattle.qs_deck.specs.WrittenDecks.{WrittenSystem, WrittenDeck}
 use Rattle.qs_deck.specs.Grammar.{deck, of_graphs, line}
 use Rattle.qs_deck.specs.Reading.{ReadsSystems, ReadsDeck}
-use Rattle.qs_deck.specs.Syntax.{CannotGoOn, EndsAt}
-use Rattle.qs_deck.specs.Readers.{table, StopsAt, EndsIn, AreSystemsRead}
+use Rattle.qs_deck.specs.Syntax.{CannotGoOn}
+use Rattle.qs_deck.specs.working.Syntax.{EndsAt}
+use Rattle.qs_deck.specs.working.Readers.{table, StopsAt, EndsIn, AreSystemsRead}
 use Rattle.qs_deck.proofs.Tables.{more, ok, ok_table, graphs_are}
 use Rattle.qs_ruletext.proofs.Between.{next_at, between_drop}
 use Rattle.qs_deck.proofs.Systems.{to_graph}

@@ -18,7 +18,7 @@ use Rattle.qs_ruletext.specs.Rules.{between, CannotGoOn, EndsFrom, NoRuleAt}
 use Rattle.qs_ruletext.specs.Cursors.{IsNext, begins_tree}
 use Rattle.qs_ruletext.proofs.Between.{drop_twice, next_at, between_drop, some_between}
 use Rattle.qs_deck.specs.Grammar.{Part, system, of_rules, line}
-use Rattle.qs_deck.specs.Readers.{table, behind_system, IsHeading, StopsAt, EndsIn}
+use Rattle.qs_deck.specs.working.Readers.{table, behind_system, IsHeading, StopsAt, EndsIn}
 use Rattle.qs_deck.proofs.Tables.{more, ok, ok_table, rule_apart, rules_are, token}
 
 -- { rule }

@@ -22,7 +22,7 @@ use Rattle.qs_graphtext.specs.Grammar as graphs
 use Rattle.qs_deck.specs.WrittenDecks.{WrittenSystem}
 use Rattle.qs_deck.specs.Grammar.{Part, deck, system, of_rules, of_graphs, line}
 use Rattle.qs_deck.specs.Reading.{ReadsSystem, reads_system, ReadsSystems}
-use Rattle.qs_deck.specs.Readers.{table, behind_system, IsHeading, StopsAt, EndsIn, IsSystemRead, AreSystemsRead}
+use Rattle.qs_deck.specs.working.Readers.{table, behind_system, IsHeading, StopsAt, EndsIn, IsSystemRead, AreSystemsRead}
 use Rattle.qs_deck.proofs.Tables.{more, ok, ok_table, system_apart, rules_are, next_is_no, not_at_end}
 use Rattle.qs_deck.proofs.Steps.{heading_rest, no_rule_next}
 use Rattle.qs_deck.proofs.Naming.{names_behind, heading_names}

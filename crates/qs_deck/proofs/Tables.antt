@@ -16,7 +16,7 @@ use Rattle.qs_ruletext.proofs.Tables as rule_tables
 use Rattle.qs_graphtext.specs.Grammar as graphs
 use Rattle.qs_graphtext.proofs.Tables as graph_tables
 use Rattle.qs_deck.specs.Grammar.{Part, deck, system, of_rules, of_graphs, line}
-use Rattle.qs_deck.specs.Readers.{table, behind_system}
+use Rattle.qs_deck.specs.working.Readers.{table, behind_system}
 
 -- with which sorts a whole part may go on
 

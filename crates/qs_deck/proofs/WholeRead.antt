@@ -11,7 +11,7 @@ use Rattle.qs_ruletext.specs.WrittenRules.{WrittenRule}
 use Rattle.qs_ruletext.specs.Grammar as rules
 use Rattle.qs_ruletext.specs.Rules.{ReadsWrittenRule, ReadsRules}
 use Rattle.qs_ruletext.specs.Names.{NamesGrow}
-use Rattle.qs_ruletext.specs.Cursors.{Readable}
+use Rattle.qs_ruletext.specs.working.Cursors.{Readable}
 use Rattle.qs_ruletext.proofs.KnownTokens.{IsKnown, all_known, names_grow}
 use Rattle.qs_ruletext.proofs.RulesRead.{readable_behind}
 use Rattle.qs_ruletext.proofs.WholeRead.{rule_read}

@@ -1,36 +1,11 @@
--- No public contract cites this: what private functions promise of a text that means no deck.
-use Rattle.std.specs.Prelude.{ℕ, List, IsCharBoundary}
-use Rattle.qs_lex.specs.declared.refusal.Cause.TheVariants.{TooManyArcs, Cycle, Entries, Exits}
+-- How the answers of the readers below are handed on.
 use Rattle.qs_lex.specs.declared.refusal.LexEnd.{LexEnd}
 use Rattle.qs_lex.specs.declared.refusal.LexEnd.TheVariants as lex_end
-use Rattle.qs_check.specs.declared.checking.CheckEnd.{CheckEnd}
-use Rattle.qs_check.specs.declared.checking.CheckEnd.TheVariants as check_end
-use Rattle.qs_graphtext.specs.declared.chain_end.ChainEnd.{ChainEnd}
-use Rattle.qs_graphtext.specs.declared.chain_end.ChainEnd.TheVariants as chain_end
 use Rattle.qs_deck.specs.declared.deck.DeckEnd.{DeckEnd}
 use Rattle.qs_deck.specs.declared.deck.DeckEnd.TheVariants as deck_end
-use Rattle.qs_deck.specs.declared.fault.FaultEnd.{FaultEnd}
-use Rattle.qs_deck.specs.declared.fault.FaultEnd.TheVariants.{Fault, Memory}
-use Rattle.qs_deck.specs.Refusals.{IsFault}
 
--- what is handed on where there are no tokens, and where a check or a graph has a fault. The place of a graph that isn't valid
--- is its word -GRAPHE-, which begins at the given byte.
+-- what is handed on where there are no tokens, and where a check or a graph has a fault. The place of a graph that
+-- isn't valid is its word -GRAPHE-, which begins at the given byte.
 abbrev pub end_of_tokens : LexEnd → DeckEnd
 end_of_tokens (lex_end.Refused refusal) = deck_end.Refused refusal
 end_of_tokens lex_end.Memory = deck_end.Memory
-
-abbrev pub end_of_check : CheckEnd → FaultEnd
-end_of_check (check_end.Refused cause at) = Fault at cause
-end_of_check check_end.Memory = Memory
-
-abbrev pub end_of_chains : ℕ → ChainEnd → FaultEnd
-end_of_chains graph_at (chain_end.TooManyArcs at) = Fault at TooManyArcs
-end_of_chains graph_at chain_end.Cycle = Fault graph_at Cycle
-end_of_chains graph_at chain_end.Entries = Fault graph_at Entries
-end_of_chains graph_at chain_end.Exits = Fault graph_at Exits
-end_of_chains graph_at chain_end.Memory = Memory
-
--- why a text means no deck: this is its first fault, and its place is between characters; or there was no memory
-abbrev pub IsEndOf : List ℕ → FaultEnd → Type 0
-IsEndOf text (Fault byte cause) = IsFault text byte cause × IsCharBoundary text byte
-IsEndOf text Memory = Unit {0}

@@ -17,7 +17,8 @@ pub record IsChecked (deck : WrittenDeck) : Type 0 where
 -- The first fault and its byte: the word -SYSTEME- of the 257th system; or, where there are no more than 256, the first
 -- cause why the first rule that isn't accepted isn't.
 pub data IsCheckFault (deck : WrittenDeck) : ℕ → Cause → Type 0 where
-  too_many_systems : (system : WrittenSystem) → slice_get deck.systems 256 ≡ Some system → IsCheckFault deck system.at TooManySystems
+  too_many_systems : (system : WrittenSystem) → slice_get deck.systems 256 ≡ Some system
+      → IsCheckFault deck system.at TooManySystems
   rule_not_accepted : (front behind : List WrittenRule) (raw : WrittenRule) {at : ℕ} {cause : Cause}
       → length deck.systems ≤ 256 → rules_in deck ≡ front ++ raw ∷ behind → All (λ r. IsAcceptable r.rule) front
       → EndsWith raw (Refused cause at) → IsCheckFault deck at cause

@@ -37,16 +37,16 @@ pub record HasTokens (text : List ℕ) (tokens : List Token) : Type 0 where
   pub are_tokens : AreTokensOf text tokens
   pub shallow : (index : ℕ) → IsTooDeep tokens index → ⊥
 
--- The text has these tokens, and they are this written deck. Its names are the texts of its labels, each once, in the order in
--- which they occur first.
+-- The text has these tokens, and they are this written deck. Its names are the texts of its labels, each once, in the
+-- order in which they occur first.
 pub record IsWritten (text : List ℕ) (names : List (List ℕ)) (deck : WrittenDeck) : Type 0 where
   pub tokens : List Token
   pub has_tokens : HasTokens text tokens
   pub reads : ReadsDeck names text tokens deck []
   pub names_are : NamesGrow text tokens [] names
 
--- The text is accepted, and means these grammars and this graph, with these names for the labels: it is a written deck that
--- passes the checks, and whose chains make a valid graph of at most 65,536 arcs.
+-- The text is accepted, and means these grammars and this graph, with these names for the labels: it is a written deck
+-- that passes the checks, and whose chains make a valid graph of at most 65,536 arcs.
 pub record IsDeckOf (text : List ℕ) (names : List (List ℕ)) (grammars : List Grammar) (graph : QGraph) : Type 0 where
   pub written : WrittenDeck
   pub is_written : IsWritten text names written

@@ -1,5 +1,6 @@
--- The grammar of decks, decks as they are read from their tokens, which decks are accepted and why others are refused, and how
--- decks are written. Decks of grammars and a Q-graph are Colmerauer's (1970); their spelling, limits and refusals are this project's own.
+-- The grammar of decks, decks as they are read from their tokens, which decks are accepted and why others are refused,
+-- and how decks are written. Decks of grammars and a Q-graph are Colmerauer's (1970); their spelling, limits and
+-- refusals are this project's own.
 pub mod Grammar
 pub mod WrittenDecks
 pub mod Reading
@@ -10,9 +11,5 @@ pub mod Named
 pub mod Refusals
 pub mod Texts
 pub mod MadeDecks
--- No public contract cites these: what private functions promise, and how the logic tells written decks apart.
-pub mod Readers
-pub mod Checked
 pub mod Answers
-pub mod Codes
-pub mod MadeParts
+pub mod working

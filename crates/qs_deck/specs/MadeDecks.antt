@@ -78,7 +78,8 @@ made_graph k = line_graph 1 (map (word_tree k) (words k)) 2
 -- The text, line by line. A rule: `T0(I*) + T0(J*) == T1(I*).`
 abbrev pub level_line : ℕ → List ℕ
 level_line i =
-    line (level_name i ++ (codes "(I*) + " ++ (level_name i ++ (codes "(J*) == " ++ (level_name (i + 1) ++ codes "(I*).")))))
+    line (level_name i
+    ++ (codes "(I*) + " ++ (level_name i ++ (codes "(J*) == " ++ (level_name (i + 1) ++ codes "(I*).")))))
 
 -- The words with a plus sign between two: `T0(M1) + T0(M2)`
 abbrev pub word_text : ℕ → List ℕ

@@ -18,10 +18,12 @@ pub data ReadsSystem (names : List (List ℕ)) (text : List ℕ) : List Token �
 -- the tokens before the rest are read as these systems, one behind the other
 abbrev pub ReadsSystems : List (List ℕ) → List ℕ → List Token → List WrittenSystem → List Token → Type 0
 ReadsSystems names text ts [] rest = ts ≡ rest
-ReadsSystems names text ts (system ∷ systems) rest = (middle : List Token) × ReadsSystem names text ts system middle × ReadsSystems names text middle systems rest
+ReadsSystems names text ts (system ∷ systems) rest =
+    (middle : List Token) × ReadsSystem names text ts system middle × ReadsSystems names text middle systems rest
 
 -- deck = system { system } graph. The deck knows the byte at which its graph begins.
-pub record ReadsDeck (names : List (List ℕ)) (text : List ℕ) (ts : List Token) (deck : WrittenDeck) (rest : List Token) : Type 0 where
+pub record ReadsDeck (names : List (List ℕ)) (text : List ℕ) (ts : List Token) (deck : WrittenDeck)
+    (rest : List Token) : Type 0 where
   pub some : 1 ≤ length deck.systems
   pub first : Token
   pub behind : List Token

@@ -5,7 +5,8 @@ use Rattle.std.specs.Str.{IsUtf8}
 use Rattle.std.specs.Str.Lossy.{utf8_valid_len}
 use Rattle.qs_lex.specs.declared.token.Token.{Token}
 use Rattle.qs_lex.specs.declared.refusal.Cause.{Cause}
-use Rattle.qs_lex.specs.declared.refusal.Cause.TheVariants.{NotUtf8, TooDeep, Syntax, TooManyArcs, Cycle, Entries, Exits}
+use Rattle.qs_lex.specs.declared.refusal.Cause.TheVariants.{NotUtf8, TooDeep, Syntax, TooManyArcs, Cycle, Entries}
+use Rattle.qs_lex.specs.declared.refusal.Cause.TheVariants.{Exits}
 use Rattle.qs_lex.specs.declared.refusal.Refusal.{Refusal}
 use Rattle.qs_lex.specs.Tokens.{AreTokensOf}
 use Rattle.qs_lex.specs.Nesting.{IsTooDeep}
@@ -32,21 +33,23 @@ pub record IsFirstTooDeep (tokens : List Token) (index : ℕ) : Type 0 where
   pub deep : IsTooDeep tokens index
   pub first : (earlier : ℕ) → earlier < index → IsTooDeep tokens earlier → ⊥
 
--- The chains of the deck make no graph: there are too many trees, and the 65,537th begins at this byte; or what they make isn't
--- valid, for the first of three causes, of which the word -GRAPHE- is the place.
+-- The chains of the deck make no graph: there are too many trees, and the 65,537th begins at this byte; or what they
+-- make isn't valid, for the first of three causes, of which the word -GRAPHE- is the place.
 pub data IsGraphFault (deck : WrittenDeck) : ℕ → Cause → Type 0 where
   too_many_arcs : {at : ℕ} → AreRefused deck.chains (chain_end.TooManyArcs at) → IsGraphFault deck at TooManyArcs
   cycle : AreRefused deck.chains chain_end.Cycle → IsGraphFault deck deck.graph_at Cycle
   entries : AreRefused deck.chains chain_end.Entries → IsGraphFault deck deck.graph_at Entries
   exits : AreRefused deck.chains chain_end.Exits → IsGraphFault deck deck.graph_at Exits
 
--- The first fault of a text: the byte of its place, and its cause. The place of bytes that aren't UTF-8 is behind the longest
--- front that is.
+-- The first fault of a text: the byte of its place, and its cause. The place of bytes that aren't UTF-8 is behind the
+-- longest front that is.
 pub data IsFault (text : List ℕ) : ℕ → Cause → Type 0 where
   bytes : (IsUtf8 text → ⊥) → IsFault text (utf8_valid_len text) NotUtf8
   tokens : {at : ℕ} {cause : Cause} → IsUtf8 text → IsFirstFault text at cause → IsFault text at cause
-  nesting : (ts : List Token) (index : ℕ) → IsUtf8 text → AreTokensOf text ts → IsFirstTooDeep ts index → IsFault text (byte_of text ts index) TooDeep
-  syntax : (ts : List Token) (index : ℕ) → HasTokens text ts → CannotGoOn ts index → IsFault text (byte_of text ts index) Syntax
+  nesting : (ts : List Token) (index : ℕ) → IsUtf8 text → AreTokensOf text ts → IsFirstTooDeep ts index
+      → IsFault text (byte_of text ts index) TooDeep
+  syntax : (ts : List Token) (index : ℕ) → HasTokens text ts → CannotGoOn ts index
+      → IsFault text (byte_of text ts index) Syntax
   check : (names : List (List ℕ)) (deck : WrittenDeck) {at : ℕ} {cause : Cause}
       → IsWritten text names deck → IsCheckFault deck at cause → IsFault text at cause
   graph : (names : List (List ℕ)) (deck : WrittenDeck) {at : ℕ} {cause : Cause}

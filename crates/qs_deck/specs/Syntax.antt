@@ -2,19 +2,12 @@
 use Rattle.std.specs.Prelude.{◌≡◌, ℕ, ◌≤◌, List, [], ◌∷◌, ◌++◌, length, take, Some, slice_get}
 use Rattle.qs_lex.specs.declared.token.Token.{Token}
 use Rattle.qs_lex.specs.Grammar.{part, IsWhole, Begins}
-use Rattle.qs_reader.specs.declared.text_end.TextEnd.{TextEnd}
-use Rattle.qs_reader.specs.declared.text_end.TextEnd.TheVariants.{Syntax, Memory}
 use Rattle.qs_deck.specs.Grammar.{deck, line}
 
--- The tokens before `at` begin a deck, and with the token at `at` they begin none; or there is no such token, they begin a
--- deck, and they are none.
+-- The tokens before `at` begin a deck, and with the token at `at` they begin none; or there is no such token, they
+-- begin a deck, and they are none.
 pub record CannotGoOn (tokens : List Token) (at : ℕ) : Type 0 where
   pub within : at ≤ length tokens
   pub begins : Begins line (part deck) (take at tokens)
   pub no_further : (t : Token) → slice_get tokens at ≡ Some t → Begins line (part deck) (take at tokens ++ t ∷ []) → ⊥
   pub not_whole : at ≡ length tokens → IsWhole line (part deck) tokens [] → ⊥
-
--- why no deck was read: it can't go on at this place, or there was no memory, which may come at any time
-abbrev pub EndsAt : List Token → TextEnd → Type 0
-EndsAt tokens (Syntax at) = CannotGoOn tokens at
-EndsAt tokens Memory = Unit {0}

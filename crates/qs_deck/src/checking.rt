@@ -5,7 +5,7 @@ ghost use Rattle.std.specs.List.{All};
 ghost use Rattle.qs_check.specs.Checking.{CanBeChecked};
 ghost use Rattle.qs_deck.specs.Decks.{rule_of, grammar_of, meaning_of};
 ghost use Rattle.qs_deck.specs.WrittenDecks.{rules_of};
-ghost use Rattle.qs_deck.specs.Checked.{AreAccepted, IsFirstRefused, IsFirstFault};
+ghost use Rattle.qs_deck.specs.working.Checked.{AreAccepted, IsFirstRefused, IsFirstFault};
 
 use crate::system::System;
 use crate::written::RawSystem;
@@ -62,8 +62,8 @@ fn checked_systems(alloc: Global, systems: Vec<RawSystem>) -> Result<Vec<System>
     Ok(checked)
 }
 
-/// The grammars of a written deck, where there are at most 256 and each of their rules is accepted; or the first fault: the
-/// word `-SYSTEME-` of the 257th grammar, or the first cause why the first rule that isn't accepted isn't.
+/// The grammars of a written deck, where there are at most 256 and each of their rules is accepted; or the first fault:
+/// the word `-SYSTEME-` of the 257th grammar, or the first cause why the first rule that isn't accepted isn't.
 pub fn checked(alloc: Global, systems: Vec<RawSystem>) -> Result<Vec<System>, CheckEnd>
     requires can { All CanBeChecked (rules_of systems.items) }
     requires few { All (λ system. length system.rules < 4294967295) systems.items }

@@ -2,7 +2,8 @@
 
 ghost use Rattle.std.specs.Prelude.{length};
 ghost use Rattle.qs_graphtext.specs.Texts.{AreArcsNamed};
-ghost use Rattle.qs_deck.specs.Named.{AreSystemsNamed, AreSystemsNamed-prop, AreArcsNamed-prop};
+ghost use Rattle.qs_deck.specs.Named.{AreSystemsNamed};
+ghost use Rattle.qs_deck.specs.working.Named.{AreSystemsNamed-prop, AreArcsNamed-prop};
 
 use crate::system::System;
 use qs_graph::Graph;
@@ -10,13 +11,15 @@ use qs_lex::{LexEnd, Refusal};
 use qs_tree::Names;
 use thiserror::Error;
 
-/// A deck: the texts of its labels, its grammars in the order of the text, and its graph. Each label in it is one of the names.
+/// A deck: the texts of its labels, its grammars in the order of the text, and its graph.
+/// Each label in it is one of the names.
 #[derive(Drop)]
 pub struct Deck {
     pub names: Names,
     pub systems: Vec<System>,
     pub graph: Graph,
-    ghost systems_named: { AreSystemsNamed (length names) systems.items } by { AreSystemsNamed-prop (length names) systems.items },
+    ghost systems_named: { AreSystemsNamed (length names) systems.items } by { AreSystemsNamed-prop (length names)
+        systems.items },
     ghost graph_named: { AreArcsNamed (length names) graph.arcs } by { AreArcsNamed-prop (length names) graph.arcs },
 }
 

@@ -9,7 +9,7 @@ ghost use Rattle.qs_graph.specs.Graphs.{QGraph};
 ghost use Rattle.qs_lex.specs.declared.refusal.Refusal.{Refusal};
 ghost use Rattle.qs_deck.specs.Decks.{Grammar, grammar_of, IsDeckOf, IsWritten};
 ghost use Rattle.qs_deck.specs.Refusals.{byte_of, IsRefusalOf, EndsFor};
-ghost use Rattle.qs_deck.specs.Answers.{IsEndOf, end_of_chains};
+ghost use Rattle.qs_deck.specs.working.Answers.{IsEndOf, end_of_chains};
 ghost use Rattle.qs_deck.specs.Texts.{deck_text};
 
 use crate::checking::checked;
@@ -168,9 +168,9 @@ fn deck_of_bytes(alloc: Global, bytes: &[u8]) -> Result<Deck, DeckEnd>
 
 /// The deck that the text means, which has at most 4,194,304 bytes.
 ///
-/// `Refused` comes exactly where the text isn't accepted, with the line, the column and the cause of its first fault. The
-/// bytes are looked at first, then tokens, nesting, syntax, the checks of grammars and rules, and at last the graph; the
-/// first of these that finds a fault answers. `Memory` may come for any text.
+/// `Refused` comes exactly where the text isn't accepted, with the line, the column and the cause of its first fault.
+/// The bytes are looked at first, then tokens, nesting, syntax, the checks of grammars and rules, and at last the
+/// graph; the first of these that finds a fault answers. `Memory` may come for any text.
 ///
 /// What `write_deck` writes of a deck that was read is itself accepted, and means the same deck.
 pub fn read_deck(alloc: Global, bytes: &[u8]) -> Result<Deck, DeckEnd>
@@ -179,11 +179,13 @@ pub fn read_deck(alloc: Global, bytes: &[u8]) -> Result<Deck, DeckEnd>
     ensures end { IfErr result (EndsFor bytes.now) }
 
     // An accepted text is read, if memory lasts, and one that isn't accepted is refused for its first fault.
-    ensures accepted { (names : List (List ℕ)) (grammars : List Grammar) (graph : QGraph) → IsDeckOf bytes.now names grammars graph → IfErr result (λ end. end ≡ DeckEnd.Memory) }
+    ensures accepted { (names : List (List ℕ)) (grammars : List Grammar) (graph : QGraph)
+        → IsDeckOf bytes.now names grammars graph → IfErr result (λ end. end ≡ DeckEnd.Memory) }
     ensures faulty { (refusal : Refusal) → IsRefusalOf bytes.now refusal → IsErr result }
 
     // The text of a deck that was read is accepted, with this deck: the same grammars and graph, with the same names.
-    ensures read_back { IfOk result (λ deck. IsDeckOf (deck_text deck.names (map grammar_of deck.systems.items) deck.graph) deck.names (map grammar_of deck.systems.items) deck.graph) }
+    ensures read_back { IfOk result (λ deck. IsDeckOf (deck_text deck.names
+        (map grammar_of deck.systems.items) deck.graph) deck.names (map grammar_of deck.systems.items) deck.graph) }
 {
     one_answer();
     what_is_written_is_read();

@@ -14,7 +14,7 @@ pub enum FaultEnd {
 
 impl From<CheckEnd> for FaultEnd {
     ghost use Rattle.std.specs.Prelude.{◌≡◌};
-    ghost use Rattle.qs_deck.specs.Answers.{end_of_check};
+    ghost use Rattle.qs_deck.specs.working.Answers.{end_of_check};
 
     ghost from_gives = { λ x e. e ≡ end_of_check x };
 

@@ -7,7 +7,7 @@ ghost use Rattle.qs_pattern.specs.Patterns.{Patterns, no_pattern, node_first, pa
 ghost use Rattle.qs_deck.specs.Decks.{grammar_of};
 ghost use Rattle.qs_deck.specs.MadeDecks.{made_names, first_var, second_var, of_level, level_rule, made_grammar};
 ghost use Rattle.qs_deck.specs.MadeDecks.{word_tree, words, made_graph};
-ghost use Rattle.qs_deck.specs.MadeParts.{numbered};
+ghost use Rattle.qs_deck.specs.working.MadeParts.{numbered};
 
 use crate::deck::Deck;
 use crate::system::System;

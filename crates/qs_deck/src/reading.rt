@@ -1,6 +1,7 @@
 //! Decks, read from tokens.
 
-ghost use Rattle.std.specs.Prelude.{◌≡◌, ℕ, ◌*◌, ◌^◌, ◌+◌, ◌<◌, ◌≤◌, IfOk, IfErr, [], ◌∷◌, length, drop, IsTrue, IsFalse};
+ghost use Rattle.std.specs.Prelude.{◌≡◌, ℕ, ◌*◌, ◌^◌, ◌+◌, ◌<◌, ◌≤◌, IfOk, IfErr, [], ◌∷◌, length, drop, IsTrue};
+ghost use Rattle.std.specs.Prelude.{IsFalse};
 ghost use Rattle.std.specs.List.{All};
 ghost use Rattle.qs_lex.specs.declared.token.Word.TheVariants.{Systeme};
 ghost use Rattle.qs_lex.specs.Tokens.{AreTokensOf, IsLabel};
@@ -13,8 +14,9 @@ ghost use Rattle.qs_graphtext.specs.Reading.{AreNamed};
 ghost use Rattle.qs_deck.specs.Grammar.{deck, system};
 ghost use Rattle.qs_deck.specs.WrittenDecks.{rules_in};
 ghost use Rattle.qs_deck.specs.Reading.{ReadsDeck};
-ghost use Rattle.qs_deck.specs.Syntax.{EndsAt};
-ghost use Rattle.qs_deck.specs.Readers.{behind_system, IsHeading, EndsInHeading, EndsIn, IsSystemRead, NextIsWord, AreSystemsRead};
+ghost use Rattle.qs_deck.specs.working.Syntax.{EndsAt};
+ghost use Rattle.qs_deck.specs.working.Readers.{behind_system, IsHeading, EndsInHeading, EndsIn, IsSystemRead};
+ghost use Rattle.qs_deck.specs.working.Readers.{NextIsWord, AreSystemsRead};
 
 use crate::written::{RawDeck, RawSystem};
 use qs_graphtext::read_chains;
@@ -121,14 +123,15 @@ fn systems(
     Ok((systems, from))
 }
 
-/// Reads the deck that these tokens of the text are, before it is checked. None of them opens a 1,001st parenthesis, and there
-/// are numbers for two more labels for each token.
+/// Reads the deck that these tokens of the text are, before it is checked. None of them opens a 1,001st parenthesis,
+/// and there are numbers for two more labels for each token.
 ///
-/// `Ok` gives the deck, whose systems may be too many, whose rules may not be accepted, and whose chains may make no graph.
-/// `Syntax` comes with the first place at which the tokens can't go on to a deck, which is the number of tokens where they end
-/// within one. `Memory` may come at any time. After every answer `names` keeps its texts and numbers, and may hold further
-/// texts: on `Ok` exactly those of the labels that were read and that it didn't hold, each once, in the order of their first
-/// occurrence. Every label that was read is below `names.len()`.
+/// `Ok` gives the deck, whose systems may be too many, whose rules may not be accepted,
+/// and whose chains may make no graph.
+/// `Syntax` comes with the first place at which the tokens can't go on to a deck, which is the number of tokens where
+/// they end within one. `Memory` may come at any time. After every answer `names` keeps its texts and numbers, and may
+/// hold further texts: on `Ok` exactly those of the labels that were read and that it didn't hold, each once, in the
+/// order of their first occurrence. Every label that was read is below `names.len()`.
 pub fn read_written(
     alloc: Global,
     text: &str,

@@ -15,10 +15,11 @@ use qs_ruletext::write_rule;
 use qs_tree::{Names, write_label};
 use std::alloc::{AllocError, Global};
 
-/// Appends the deck in canonical spelling: for each grammar the line `-SYSTEME- S.` and a line for each rule, then the graph.
-/// Where there is no memory, `out` is left as it was.
+/// Appends the deck in canonical spelling: for each grammar the line `-SYSTEME- S.` and a line for each rule, then the
+/// graph. Where there is no memory, `out` is left as it was.
 pub fn write_deck(alloc: Global, deck: &Deck, out: &mut Vec<u8>) -> Result<(), AllocError>
-    ensures ok { OnOk result (out.new.items ≡ out.old.items ++ deck_text deck.now.names (map grammar_of deck.now.systems.items) deck.now.graph) }
+    ensures ok { OnOk result (out.new.items
+        ≡ out.old.items ++ deck_text deck.now.names (map grammar_of deck.now.systems.items) deck.now.graph) }
     ensures err { OnErr result (out.new.items ≡ out.old.items) }
 {
     let before = out.len();
@@ -31,7 +32,8 @@ pub fn write_deck(alloc: Global, deck: &Deck, out: &mut Vec<u8>) -> Result<(), A
 
 /// Appends the deck. After an error, a part of it may stand in `out`.
 fn append_deck(alloc: Global, deck: &Deck, out: &mut Vec<u8>) -> Result<(), AllocError>
-    ensures ok { OnOk result (out.new.items ≡ out.old.items ++ deck_text deck.now.names (map grammar_of deck.now.systems.items) deck.now.graph) }
+    ensures ok { OnOk result (out.new.items
+        ≡ out.old.items ++ deck_text deck.now.names (map grammar_of deck.now.systems.items) deck.now.graph) }
     ensures err { OnErr result (take (length out.old.items) out.new.items ≡ out.old.items) }
 {
     append_systems(alloc, &deck.names, &deck.systems, out)?;
@@ -46,7 +48,8 @@ fn append_systems(
     out: &mut Vec<u8>,
 ) -> Result<(), AllocError>
     requires { AreSystemsNamed (length names.now) systems.now }
-    ensures ok { OnOk result (out.new.items ≡ out.old.items ++ flat_map (grammar_text names.now) (map grammar_of systems.now)) }
+    ensures ok { OnOk result (out.new.items
+        ≡ out.old.items ++ flat_map (grammar_text names.now) (map grammar_of systems.now)) }
     ensures err { OnErr result (take (length out.old.items) out.new.items ≡ out.old.items) }
 {
     for system in systems {
@@ -55,7 +58,8 @@ fn append_systems(
     Ok(())
 }
 
-/// Appends the grammar: the line of its name, and a line for each rule. After an error, a part of it may stand in `out`.
+/// Appends the grammar: the line of its name, and a line for each rule. After an error,
+/// a part of it may stand in `out`.
 fn append_system(
     alloc: Global,
     names: &Names,

@@ -5,8 +5,8 @@ use qs_ruletext::RawRule;
 use qs_tree::Label;
 use std::marker::Model;
 
-/// A grammar as it was read: the byte of the text at which its word `-SYSTEME-` begins, its name, and its rules, which may or
-/// may not be accepted.
+/// A grammar as it was read: the byte of the text at which its word `-SYSTEME-` begins, its name, and its rules, which
+/// may or may not be accepted.
 #[derive(Drop)]
 pub struct RawSystem {
     pub at: u32,
@@ -16,7 +16,7 @@ pub struct RawSystem {
 
 impl Model for RawSystem {
     ghost use Rattle.qs_deck.specs.WrittenDecks.{WrittenSystem};
-    ghost use Rattle.qs_deck.specs.Codes.{system_code};
+    ghost use Rattle.qs_deck.specs.working.Codes.{system_code};
 
     ghost Value = { WrittenSystem };
 
@@ -25,8 +25,8 @@ impl Model for RawSystem {
     ghost view = { λ s. record { at = s.at; name = s.name; rules = s.rules.items } };
 }
 
-/// A deck as it was read: its grammars, of which there may be too many, the byte of the text at which the word `-GRAPHE-`
-/// begins, and its chains, which may or may not make a graph.
+/// A deck as it was read: its grammars, of which there may be too many, the byte of the text at which the word
+/// `-GRAPHE-` begins, and its chains, which may or may not make a graph.
 #[derive(Drop)]
 pub struct RawDeck {
     pub systems: Vec<RawSystem>,
@@ -36,7 +36,7 @@ pub struct RawDeck {
 
 impl Model for RawDeck {
     ghost use Rattle.qs_deck.specs.WrittenDecks.{WrittenDeck};
-    ghost use Rattle.qs_deck.specs.Codes.{deck_code};
+    ghost use Rattle.qs_deck.specs.working.Codes.{deck_code};
 
     ghost Value = { WrittenDeck };
 

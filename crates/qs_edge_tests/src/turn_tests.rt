@@ -28,7 +28,8 @@ impl Told for Numbers {
 fn add_number<R: Wait>(rt: &R, turns: &Turns<Numbers>, pass: &mut Pass<Numbers>) -> bool
     requires { IsPassOf turns.now pass.old × HoldsNoTurn pass.old }
     ensures pass { IsPassOf turns.now pass.new × HoldsNoTurn pass.new × (number_of pass.new ≡ number_of pass.old) }
-    ensures count { count_by (λ e. e == number_of pass.old) (seen_of pass.new) ≡ count_by (λ e. e == number_of pass.old) (seen_of pass.old) + (if result then 1 else 0) }
+    ensures count { count_by (λ e. e == number_of pass.old) (seen_of pass.new)
+        ≡ count_by (λ e. e == number_of pass.old) (seen_of pass.old) + (if result then 1 else 0) }
 {
     let number = pass.number();
     let mut held = turns.enter(rt, pass);
@@ -50,7 +51,8 @@ fn add_thousand<R: Wait>(
 ) -> (Pass<Numbers>, u32)
     requires { IsPassOf turns.now pass × HoldsNoTurn pass }
     ensures pass { IsPassOf turns.now result.0 × HoldsNoTurn result.0 × (number_of result.0 ≡ number_of pass) }
-    ensures count { count_by (λ e. e == number_of pass) (seen_of result.0) ≡ count_by (λ e. e == number_of pass) (seen_of pass) + result.1 }
+    ensures count { count_by (λ e. e == number_of pass) (seen_of result.0)
+        ≡ count_by (λ e. e == number_of pass) (seen_of pass) + result.1 }
 {
     let mut added = 0u32;
     for _ in 0..1000u32 {

@@ -15,7 +15,7 @@ use Rattle.qs_ruletext.proofs.Naming.{names_on, sign_names}
 use Rattle.qs_graphtext.specs.WrittenChains.{WrittenChain}
 use Rattle.qs_graphtext.specs.Grammar.{Part, graph, chain, plain, line}
 use Rattle.qs_graphtext.specs.Reading.{ReadsPlain, ReadsRooted, reads_rooted, ReadsTrees, reads_trees, ReadsMoreTrees, no_more_trees, one_more_tree, ReadsChain, reads_chain, ReadsChains, reads_chains, ReadsMoreChains, no_more_chains, one_more_chain, ReadsGraph, reads_graph}
-use Rattle.qs_graphtext.specs.Readers.{table, Ends, IsRead, IsNextMark, NextIsMark, plains_with}
+use Rattle.qs_graphtext.specs.working.Readers.{table, Ends, IsRead, IsNextMark, NextIsMark, plains_with}
 use Rattle.qs_graphtext.proofs.Tables.{ok, next_is_no, not_at_end, token, readable_rest, next_length, ends_on, ends_here}
 use Rattle.qs_graphtext.proofs.Repeating.{ComesTo}
 

@@ -8,7 +8,7 @@ use Rattle.qs_reader.specs.declared.text_end.TextEnd.TheVariants.{Syntax, Memory
 use Rattle.qs_ruletext.specs.Rules.{between}
 use Rattle.qs_ruletext.proofs.Between.{next_at, between_drop}
 use Rattle.qs_graphtext.specs.Grammar.{graph, line}
-use Rattle.qs_graphtext.specs.Readers.{table}
+use Rattle.qs_graphtext.specs.working.Readers.{table}
 use Rattle.qs_graphtext.specs.Refusals.{CannotGoOn, EndsFrom}
 use Rattle.qs_graphtext.proofs.Tables.{more, all_ok}
 

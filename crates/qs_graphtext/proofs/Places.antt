@@ -17,7 +17,7 @@ use Rattle.qs_graphtext.specs.WrittenChains.{WrittenChain}
 use Rattle.qs_graphtext.specs.Grammar.{Part, graph, line}
 use Rattle.qs_graphtext.specs.Reading.{ReadsPlain, reads_plain, ReadsSubtrees, no_parentheses, nothing_inside, plains_inside, ReadsPlains, reads_plains, ReadsMorePlains, no_more_plains, one_more_plain, ReadsRooted, reads_rooted, ReadsTrees, reads_trees, ReadsMoreTrees, no_more_trees, one_more_tree, ReadsChain, reads_chain, ReadsChains, reads_chains, ReadsMoreChains, no_more_chains, one_more_chain, ReadsGraph, reads_graph, AreNamed}
 use Rattle.qs_graphtext.specs.Refusals.{CannotGoOn}
-use Rattle.qs_graphtext.specs.Readers.{Readable, Passes, Ends}
+use Rattle.qs_graphtext.specs.working.Readers.{Readable, Passes, Ends}
 
 -- each of the text's tokens is one
 readable_each : (text : List ℕ) (ts : List Token) → ((k : ℕ) (t : Token) → slice_get ts k ≡ Some t → IsTokenOf text t) → Readable text ts

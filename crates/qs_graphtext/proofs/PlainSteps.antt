@@ -19,7 +19,7 @@ use Rattle.qs_ruletext.specs.Cursors.{IsNext}
 use Rattle.qs_ruletext.proofs.Naming.{no_names, names_on, one_name, sign_names}
 use Rattle.qs_graphtext.specs.Grammar.{Part, plain, line}
 use Rattle.qs_graphtext.specs.Reading.{ReadsPlain, reads_plain, ReadsSubtrees, no_parentheses, nothing_inside, plains_inside, ReadsPlains, reads_plains, ReadsMorePlains, no_more_plains, one_more_plain}
-use Rattle.qs_graphtext.specs.Readers.{table, Readable, Passes, Ends, IsRead, plains_with, in_parentheses}
+use Rattle.qs_graphtext.specs.working.Readers.{table, Readable, Passes, Ends, IsRead, plains_with, in_parentheses}
 use Rattle.qs_graphtext.proofs.Tables.{ok, next_is_no, not_at_end, token, readable_rest, next_length, ends_on, ends_here}
 use Rattle.qs_graphtext.proofs.Cells.{join_assoc}
 

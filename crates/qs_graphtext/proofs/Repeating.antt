@@ -7,11 +7,11 @@ use Rattle.qs_lex.specs.working.Expecting.{nullable, first, starts, Refuse, Lead
 use Rattle.qs_lex.proofs.Going.{leads_on, leads_same, leads_sequence, leads_done, leads_again}
 use Rattle.qs_ruletext.specs.declared.cursor.Halt.{Halt}
 use Rattle.qs_ruletext.specs.Rules.{KeepsNames}
-use Rattle.qs_ruletext.specs.Names.{NamesGrowUpTo}
+use Rattle.qs_reader.specs.working.Names.{NamesGrowUpTo}
 use Rattle.qs_ruletext.specs.Cursors.{IsNext}
 use Rattle.qs_ruletext.proofs.Naming.{names_on}
 use Rattle.qs_graphtext.specs.Grammar.{Part, line}
-use Rattle.qs_graphtext.specs.Readers.{table, Readable, Ends, IsRead}
+use Rattle.qs_graphtext.specs.working.Readers.{table, Readable, Ends, IsRead}
 use Rattle.qs_graphtext.proofs.Tables.{ok, next_is_no, not_at_end, token, ends_on}
 
 -- the forms are read but for what may still be repeated; `Completes` says what that makes of it

@@ -14,7 +14,7 @@ use Rattle.qs_ruletext.specs.declared.cursor.Halt.{Halt}
 use Rattle.qs_ruletext.specs.declared.cursor.Halt.TheVariants.{Syntax, Memory}
 use Rattle.qs_ruletext.specs.Cursors.{IsNext}
 use Rattle.qs_graphtext.specs.Grammar.{Part, graph, chain, plain, line}
-use Rattle.qs_graphtext.specs.Readers.{table, Readable, Ends}
+use Rattle.qs_graphtext.specs.working.Readers.{table, Readable, Ends}
 
 -- with which sorts a whole part may go on
 abbrev pub more : Part → Sort → Bool

@@ -10,7 +10,7 @@ use Rattle.qs_tree.specs.Trees.{Forest, Tree}
 use Rattle.qs_graphtext.specs.WrittenChains.{WrittenChain}
 use Rattle.qs_graphtext.specs.Grammar.{graph, chain, plain, line}
 use Rattle.qs_graphtext.specs.Reading.{ReadsPlain, reads_plain, ReadsSubtrees, no_parentheses, nothing_inside, plains_inside, ReadsPlains, reads_plains, ReadsMorePlains, no_more_plains, one_more_plain, ReadsRooted, reads_rooted, reads_trees, ReadsMoreTrees, no_more_trees, one_more_tree, ReadsChain, reads_chain, reads_chains, ReadsMoreChains, no_more_chains, one_more_chain, ReadsGraph, reads_graph}
-use Rattle.qs_graphtext.specs.Readers.{in_parentheses}
+use Rattle.qs_graphtext.specs.working.Readers.{in_parentheses}
 
 pub label_sort : (text : List ℕ) (t : Token) (spelling : List ℕ) → HasLabelText text t spelling → IsOf a_label t
 label_sort text t spelling h = by_kind t.kind (bytes_of text t) h

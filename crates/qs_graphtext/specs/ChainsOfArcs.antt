@@ -20,7 +20,8 @@ AreChainsOf (arc ∷ arcs) [] = ⊥
 AreChainsOf (arc ∷ arcs) (chain ∷ chains) = IsChainOf arc chain × AreChainsOf arcs chains
 
 -- The tokens before the rest are read as chains, one for each arc of the graph, and these make the graph.
-pub record ReadsBack (names : List (List ℕ)) (text : List ℕ) (tokens : List Token) (G : QGraph) (rest : List Token) : Type 0 where
+pub record ReadsBack (names : List (List ℕ)) (text : List ℕ) (tokens : List Token) (G : QGraph)
+    (rest : List Token) : Type 0 where
   pub chains : List WrittenChain
   pub reads : ReadsGraph names text tokens chains rest
   pub of_arcs : AreChainsOf G.arcs chains

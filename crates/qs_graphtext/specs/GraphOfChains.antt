@@ -12,8 +12,8 @@ use Rattle.qs_graphtext.specs.WrittenChains.{WrittenChain}
 use Rattle.qs_graphtext.specs.declared.chain_end.ChainEnd.{ChainEnd}
 use Rattle.qs_graphtext.specs.declared.chain_end.ChainEnd.TheVariants as chain_end
 
--- A written chain leads from one numbered node to another, and has trees, each with the byte at which it begins: it has a
--- tree, and a place for each of its trees.
+-- A written chain leads from one numbered node to another, and has trees, each with the byte at which it begins: it has
+-- a tree, and a place for each of its trees.
 pub record IsWhole (chain : WrittenChain) : Type 0 where
   pub some : 0 < length chain.trees
   pub places : length chain.at ≡ length chain.trees
@@ -45,16 +45,18 @@ with_chains number G (chain ∷ chains) =
 
 -- The graph of the chains: its first nodes are those that have written numbers, in ascending order of these.
 abbrev pub graph_of : List WrittenChain → QGraph
-graph_of chains = with_chains (dense (numbers_in chains)) (record { nodes = different (numbers_in chains); arcs = [] }) chains
+graph_of chains =
+    with_chains (dense (numbers_in chains)) (record { nodes = different (numbers_in chains); arcs = [] }) chains
 
 -- The chains have at most 65,536 trees, each of which makes an arc.
 abbrev pub AreFew : List WrittenChain → Type 0
 AreFew chains = length (trees_in chains) ≤ 65536
 
--- Why chains make no valid graph: there are more than 65,536 trees, and the 65,537th begins at the byte `at`; or what they
--- make has a cycle; else not exactly one entry; else not exactly one exit. Want of memory says nothing of them.
+-- Why chains make no valid graph: there are more than 65,536 trees, and the 65,537th begins at the byte `at`; or what
+-- they make has a cycle; else not exactly one entry; else not exactly one exit. Want of memory says nothing of them.
 abbrev pub AreRefused : List WrittenChain → ChainEnd → Type 0
-AreRefused chains (chain_end.TooManyArcs at) = (65536 < length (trees_in chains)) × (slice_get (places_in chains) 65536 ≡ Some at)
+AreRefused chains (chain_end.TooManyArcs at) =
+    (65536 < length (trees_in chains)) × (slice_get (places_in chains) 65536 ≡ Some at)
 AreRefused chains chain_end.Cycle = AreFew chains × IsRefused (graph_of chains) graph_end.Cycle
 AreRefused chains chain_end.Entries = AreFew chains × IsRefused (graph_of chains) graph_end.Entries
 AreRefused chains chain_end.Exits = AreFew chains × IsRefused (graph_of chains) graph_end.Exits

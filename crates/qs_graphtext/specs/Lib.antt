@@ -1,5 +1,6 @@
--- Chains as they are written, the grammar of graphs, what is read from their tokens, the graph that chains make, the text of
--- a graph, and that a text is read as its graph. Each definition is this project's own, but that a graph is made of chains.
+-- Chains as they are written, the grammar of graphs, what is read from their tokens, the graph that chains make, the
+-- text of a graph, and that a text is read as its graph. Each definition is this project's own,
+-- but that a graph is made of chains.
 pub mod WrittenChains
 pub mod Grammar
 pub mod Reading
@@ -8,6 +9,4 @@ pub mod GraphOfChains
 pub mod Causes
 pub mod Texts
 pub mod ChainsOfArcs
--- No public contract cites these: what the private functions of the reader promise, and how the logic tells chains apart.
-pub mod Readers
-pub mod Codes
+pub mod working

@@ -16,14 +16,17 @@ mutual
   -- plain = label [ "(" [ plain { "," plain } ] ")" ]
   pub data ReadsPlain (names : List (List ℕ)) (text : List ℕ) : List Token → Tree → List Token → Type 0 where
     reads_plain : {t : Token} {label : Label} {ts rest : List Token} {kids : Forest}
-        → IsLabelOf names text t label → ReadsSubtrees names text ts kids rest → ReadsPlain names text (t ∷ ts) (record { root = label; subtrees = kids }) rest
+        → IsLabelOf names text t label → ReadsSubtrees names text ts kids rest
+        → ReadsPlain names text (t ∷ ts) (record { root = label; subtrees = kids }) rest
 
   -- what stands behind a label: [ "(" [ plain { "," plain } ] ")" ]. Parentheses with nothing in them leave no trace.
   pub data ReadsSubtrees (names : List (List ℕ)) (text : List ℕ) : List Token → Forest → List Token → Type 0 where
     no_parentheses : {ts : List Token} → ReadsSubtrees names text ts no_tree ts
-    nothing_inside : {t u : Token} {rest : List Token} → IsOf opening t → IsOf closing u → ReadsSubtrees names text (t ∷ u ∷ rest) no_tree rest
+    nothing_inside : {t u : Token} {rest : List Token} → IsOf opening t → IsOf closing u
+        → ReadsSubtrees names text (t ∷ u ∷ rest) no_tree rest
     plains_inside : {t u : Token} {ts rest : List Token} {kids : Forest}
-        → IsOf opening t → ReadsPlains names text ts kids (u ∷ rest) → IsOf closing u → ReadsSubtrees names text (t ∷ ts) kids rest
+        → IsOf opening t → ReadsPlains names text ts kids (u ∷ rest) → IsOf closing u
+        → ReadsSubtrees names text (t ∷ ts) kids rest
 
   -- plain { "," plain }
   pub data ReadsPlains (names : List (List ℕ)) (text : List ℕ) : List Token → Forest → List Token → Type 0 where
@@ -39,17 +42,20 @@ mutual
 
 -- a tree of a chain, and the byte of the text at which the label of its root begins
 pub data ReadsRooted (names : List (List ℕ)) (text : List ℕ) : List Token → Tree → ℕ → List Token → Type 0 where
-  reads_rooted : {t : Token} {ts rest : List Token} {tree : Tree} → ReadsPlain names text (t ∷ ts) tree rest → ReadsRooted names text (t ∷ ts) tree t.from rest
+  reads_rooted : {t : Token} {ts rest : List Token} {tree : Tree} → ReadsPlain names text (t ∷ ts) tree rest
+      → ReadsRooted names text (t ∷ ts) tree t.from rest
 
 -- { "+" plain }, with the bytes of the roots
-pub data ReadsMoreTrees (names : List (List ℕ)) (text : List ℕ) : List Token → List Tree → List ℕ → List Token → Type 0 where
+pub data ReadsMoreTrees (names : List (List ℕ)) (text : List ℕ) : List Token → List Tree → List ℕ → List Token
+    → Type 0 where
   no_more_trees : {ts : List Token} → ReadsMoreTrees names text ts [] [] ts
   one_more_tree : {t : Token} {ts middle rest : List Token} {next : Tree} {byte : ℕ} {behind : List Tree} {at : List ℕ}
       → IsOf plus t → ReadsRooted names text ts next byte middle → ReadsMoreTrees names text middle behind at rest
       → ReadsMoreTrees names text (t ∷ ts) (next ∷ behind) (byte ∷ at) rest
 
 -- plain { "+" plain }, with the bytes of the roots
-pub data ReadsTrees (names : List (List ℕ)) (text : List ℕ) : List Token → List Tree → List ℕ → List Token → Type 0 where
+pub data ReadsTrees (names : List (List ℕ)) (text : List ℕ) : List Token → List Tree → List ℕ → List Token
+    → Type 0 where
   reads_trees : {ts middle rest : List Token} {first : Tree} {byte : ℕ} {behind : List Tree} {at : List ℕ}
       → ReadsRooted names text ts first byte middle → ReadsMoreTrees names text middle behind at rest
       → ReadsTrees names text ts (first ∷ behind) (byte ∷ at) rest
@@ -61,20 +67,25 @@ pub data ReadsChain (names : List (List ℕ)) (text : List ℕ) : List Token →
       → ReadsChain names text (t ∷ ts) (record { from = from; trees = trees; to = to; at = at }) rest
 
 -- { chain }
-pub data ReadsMoreChains (names : List (List ℕ)) (text : List ℕ) : List Token → List WrittenChain → List Token → Type 0 where
+pub data ReadsMoreChains (names : List (List ℕ)) (text : List ℕ) : List Token → List WrittenChain → List Token
+    → Type 0 where
   no_more_chains : {ts : List Token} → ReadsMoreChains names text ts [] ts
   one_more_chain : {ts middle rest : List Token} {next : WrittenChain} {behind : List WrittenChain}
-      → ReadsChain names text ts next middle → ReadsMoreChains names text middle behind rest → ReadsMoreChains names text ts (next ∷ behind) rest
+      → ReadsChain names text ts next middle → ReadsMoreChains names text middle behind rest
+      → ReadsMoreChains names text ts (next ∷ behind) rest
 
 -- chain { chain }
-pub data ReadsChains (names : List (List ℕ)) (text : List ℕ) : List Token → List WrittenChain → List Token → Type 0 where
+pub data ReadsChains (names : List (List ℕ)) (text : List ℕ) : List Token → List WrittenChain → List Token
+    → Type 0 where
   reads_chains : {ts middle rest : List Token} {first : WrittenChain} {behind : List WrittenChain}
-      → ReadsChain names text ts first middle → ReadsMoreChains names text middle behind rest → ReadsChains names text ts (first ∷ behind) rest
+      → ReadsChain names text ts first middle → ReadsMoreChains names text middle behind rest
+      → ReadsChains names text ts (first ∷ behind) rest
 
 -- graph = -GRAPHE- chain { chain } -FIN-
 pub data ReadsGraph (names : List (List ℕ)) (text : List ℕ) : List Token → List WrittenChain → List Token → Type 0 where
   reads_graph : {t u : Token} {ts rest : List Token} {chains : List WrittenChain}
-      → IsOf (the_word Graphe) t → ReadsChains names text ts chains (u ∷ rest) → IsOf (the_word Fin) u → ReadsGraph names text (t ∷ ts) chains rest
+      → IsOf (the_word Graphe) t → ReadsChains names text ts chains (u ∷ rest) → IsOf (the_word Fin) u
+      → ReadsGraph names text (t ∷ ts) chains rest
 
 -- each label in the trees of these chains is one of the first n
 abbrev pub AreNamed : ℕ → List WrittenChain → Type 0

@@ -16,7 +16,8 @@ node_mark n = codes "-" ++ (decimal n ++ codes "-")
 -- An arc: `-1- S(NP,VP) -2-.`
 abbrev pub arc_line : List (List ℕ) → Arc → List ℕ
 arc_line names arc =
-    line (node_mark arc.from ++ (codes " " ++ (tree_text names arc.tree ++ (codes " " ++ (node_mark arc.to ++ codes ".")))))
+    line (node_mark arc.from
+    ++ (codes " " ++ (tree_text names arc.tree ++ (codes " " ++ (node_mark arc.to ++ codes ".")))))
 
 abbrev pub graph_text : List (List ℕ) → QGraph → List ℕ
 graph_text names graph = line (codes "-GRAPHE-") ++ (flat_map (arc_line names) graph.arcs ++ line (codes "-FIN-"))

@@ -1,4 +1,5 @@
--- Chains as they are written. That a Q-graph is made of chains of trees is Colmerauer's; the places are this project's own.
+-- Chains as they are written. That a Q-graph is made of chains of trees is Colmerauer's;
+-- the places are this project's own.
 use Rattle.std.specs.Prelude.{ℕ, List}
 use Rattle.qs_tree.specs.Trees.{Tree}
 

@@ -15,7 +15,7 @@ pub struct Chain {
 
 impl Model for Chain {
     ghost use Rattle.qs_graphtext.specs.WrittenChains.{WrittenChain};
-    ghost use Rattle.qs_graphtext.specs.Codes.{chain_code};
+    ghost use Rattle.qs_graphtext.specs.working.Codes.{chain_code};
 
     ghost Value = { WrittenChain };
 

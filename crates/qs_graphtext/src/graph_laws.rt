@@ -30,13 +30,20 @@ pub fn trees_stay()
 
 /// Where each label in the trees of chains is one of the first n, so is each label of their graph.
 pub fn names_stay()
-    ensures { (n : ℕ) (chains : List WrittenChain) → ((chain : WrittenChain) → chain ∈ chains → (tree : Tree) → tree ∈ chain.trees → IsNamed n tree) → AreArcsNamed n (graph_of chains).arcs }
+    ensures { (n : ℕ) (chains : List WrittenChain) → ((chain : WrittenChain) → chain ∈ chains → (tree : Tree)
+        → tree ∈ chain.trees → IsNamed n tree) → AreArcsNamed n (graph_of chains).arcs }
 {}
 
 /// What is written of a valid graph is read as chains that make this graph, one for each arc: alone, and between other
 /// things, where the tokens behind it are read. Its labels are named, no name has the end of a line, and there are at
 /// most 999,999,999 nodes, so that each has a mark.
 pub fn what_is_written_is_read()
-    ensures within { (names : List (List ℕ)) (before behind : List ℕ) (G : QGraph) (rest : List Token) (next : ℕ) → AreOnOneLine names → IsValid G → G.nodes ≤ 999999999 → AreArcsNamed (length names) G.arcs → Reads (before ++ (graph_text names G ++ behind)) (length before + length (graph_text names G)) rest next → (ts : List Token) × Reads (before ++ (graph_text names G ++ behind)) (length before) ts next × ReadsBack names (before ++ (graph_text names G ++ behind)) ts G rest }
-    ensures alone { (names : List (List ℕ)) (G : QGraph) → AreOnOneLine names → IsValid G → G.nodes ≤ 999999999 → AreArcsNamed (length names) G.arcs → (ts : List Token) × AreTokensOf (graph_text names G) ts × ReadsBack names (graph_text names G) ts G [] }
+    ensures within { (names : List (List ℕ)) (before behind : List ℕ) (G : QGraph) (rest : List Token) (next : ℕ)
+        → AreOnOneLine names → IsValid G → G.nodes ≤ 999999999 → AreArcsNamed (length names) G.arcs
+        → Reads (before ++ (graph_text names G ++ behind)) (length before + length (graph_text names G)) rest next
+        → (ts : List Token) × Reads (before ++ (graph_text names G ++ behind)) (length before) ts next
+        × ReadsBack names (before ++ (graph_text names G ++ behind)) ts G rest }
+    ensures alone { (names : List (List ℕ)) (G : QGraph) → AreOnOneLine names
+        → IsValid G → G.nodes ≤ 999999999 → AreArcsNamed (length names) G.arcs
+        → (ts : List Token) × AreTokensOf (graph_text names G) ts × ReadsBack names (graph_text names G) ts G [] }
 {}

@@ -15,7 +15,8 @@ ghost use Rattle.qs_graphtext.specs.Reading.{ReadsGraph, IsByteOf};
 
 /// Law: the tokens that are read as a graph are a graph by the grammar.
 pub fn what_is_read_is_whole()
-    ensures { (names : List (List ℕ)) (text : List ℕ) (tokens : List Token) (chains : List WrittenChain) (rest : List Token) → ReadsGraph names text tokens chains rest → IsWhole line (part graph) tokens rest }
+    ensures { (names : List (List ℕ)) (text : List ℕ) (tokens : List Token) (chains : List WrittenChain)
+        (rest : List Token) → ReadsGraph names text tokens chains rest → IsWhole line (part graph) tokens rest }
 {}
 
 /// Law: the tokens that are a graph by the grammar are read as one, in names that have grown by the tokens.
@@ -25,15 +26,22 @@ pub fn what_is_whole_is_read()
         → (chains : List WrittenChain) × ReadsGraph names text tokens chains rest }
 {}
 
-/// Law: what is read as a graph makes one: there is a chain, each has a tree and a byte for each of its trees, and each of
-/// these bytes is that of one of the tokens.
+/// Law: what is read as a graph makes one: there is a chain, each has a tree and a byte for each of its trees, and each
+/// of these bytes is that of one of the tokens.
 pub fn what_is_read_makes_chains()
-    ensures some { (names : List (List ℕ)) (text : List ℕ) (tokens : List Token) (chains : List WrittenChain) (rest : List Token) → ReadsGraph names text tokens chains rest → 0 < length chains }
-    ensures whole { (names : List (List ℕ)) (text : List ℕ) (tokens : List Token) (chains : List WrittenChain) (rest : List Token) → ReadsGraph names text tokens chains rest → (chain : WrittenChain) → chain ∈ chains → IsWholeChain chain }
-    ensures bytes { (names : List (List ℕ)) (text : List ℕ) (tokens : List Token) (chains : List WrittenChain) (rest : List Token) → ReadsGraph names text tokens chains rest → (byte : ℕ) → byte ∈ places_in chains → IsByteOf tokens byte }
+    ensures some { (names : List (List ℕ)) (text : List ℕ) (tokens : List Token) (chains : List WrittenChain)
+        (rest : List Token) → ReadsGraph names text tokens chains rest → 0 < length chains }
+    ensures whole { (names : List (List ℕ)) (text : List ℕ) (tokens : List Token) (chains : List WrittenChain)
+        (rest : List Token) → ReadsGraph names text tokens chains rest → (chain : WrittenChain) → chain ∈ chains
+        → IsWholeChain chain }
+    ensures bytes { (names : List (List ℕ)) (text : List ℕ) (tokens : List Token) (chains : List WrittenChain)
+        (rest : List Token) → ReadsGraph names text tokens chains rest → (byte : ℕ) → byte ∈ places_in chains
+        → IsByteOf tokens byte }
 {}
 
 /// Law: where no two names are equal, tokens are read as a graph in one way only: as one list of chains with one rest.
 pub fn one_reading()
-    ensures { (names : List (List ℕ)) (text : List ℕ) (tokens rest end : List Token) (chains others : List WrittenChain) → AreDistinct names → ReadsGraph names text tokens chains rest → ReadsGraph names text tokens others end → (chains ≡ others) × (rest ≡ end) }
+    ensures { (names : List (List ℕ)) (text : List ℕ) (tokens rest end : List Token) (chains others : List WrittenChain)
+        → AreDistinct names → ReadsGraph names text tokens chains rest → ReadsGraph names text tokens others end
+        → (chains ≡ others) × (rest ≡ end) }
 {}

@@ -27,7 +27,8 @@ pub fn lay(alloc: Global, nodes: &[u32], chains: Vec<Chain>) -> Result<Laid, All
     requires whole { (chain : WrittenChain) → chain ∈ chains.items → IsWhole chain }
     requires few { length nodes.now + length (trees_in chains.items) < 4294967295 }
     ensures { IfOk result (λ l. record { nodes = l.nodes; arcs = l.edges.items }
-        ≡ with_chains (λ n. length (filter (λ m. nat_le m n) nodes.now)) (record { nodes = length nodes.now; arcs = [] })
+        ≡ with_chains (λ n. length (filter (λ m. nat_le m n) nodes.now))
+        (record { nodes = length nodes.now; arcs = [] })
         chains.items) }
 {
     let mut laid = Laid {

@@ -41,7 +41,8 @@ pub fn graph_of(alloc: Global, chains: Vec<Chain>) -> Result<Graph, ChainEnd>
 // The place of the first tree of the chains that is too many, if there is one.
 fn first_too_many(chains: &[Chain]) -> Option<u32>
     requires { (chain : WrittenChain) → chain ∈ chains.now → IsWhole chain }
-    ensures some { IfSome result (λ at. (65536 < length (trees_in chains.now)) × (slice_get (places_in chains.now) 65536 ≡ Some at)) }
+    ensures some { IfSome result (λ at. (65536 < length (trees_in chains.now))
+        × (slice_get (places_in chains.now) 65536 ≡ Some at)) }
     ensures none { IfNone result (AreFew chains.now) }
 {
     let mut room = MOST_ARCS;

@@ -9,7 +9,7 @@ ghost use Rattle.qs_tree.specs.Cells.{cells_of, cells_of_tree};
 ghost use Rattle.qs_ruletext.specs.Rules.{KeepsNames};
 ghost use Rattle.qs_graphtext.specs.Grammar.{plain};
 ghost use Rattle.qs_graphtext.specs.Reading.{ReadsPlain, ReadsSubtrees, ReadsPlains, ReadsRooted};
-ghost use Rattle.qs_graphtext.specs.Readers.{Readable, IsRead, Ends, plains_with, in_parentheses};
+ghost use Rattle.qs_graphtext.specs.working.Readers.{Readable, IsRead, Ends, plains_with, in_parentheses};
 
 use qs_lex::{Kind, Token};
 use qs_ruletext::cursor::{Halt, behind, expect};
@@ -42,7 +42,9 @@ fn plain<'t>(
     requires of_text { Readable text.now tokens.now }
     requires room { length names.old + length tokens.now < 2 ^ 32 }
     ensures keeps { KeepsNames names.old names.new }
-    ensures read { IfOk result (λ rest. (tree : LabelledTree) × (cells.new.items ≡ cells.old.items ++ cells_of_tree tree) × IsRead (part plain ∷ []) (opening ∷ []) (λ later. ReadsPlain later text.now tokens.now tree rest.now) text.now tokens.now rest.now names.old names.new) }
+    ensures read { IfOk result (λ rest. (tree : LabelledTree)
+        × (cells.new.items ≡ cells.old.items ++ cells_of_tree tree) × IsRead (part plain ∷ []) (opening ∷ []) (λ later.
+        ReadsPlain later text.now tokens.now tree rest.now) text.now tokens.now rest.now names.old names.new) }
     ensures ends { IfErr result (Ends (part plain ∷ []) (opening ∷ []) tokens.now) }
 {
     let (first, rest) = label(tokens)?;
@@ -57,7 +59,8 @@ fn plain<'t>(
     Ok(end)
 }
 
-/// What stands in parentheses behind a label, if anything does. The cells of these trees come behind those that are there.
+/// What stands in parentheses behind a label, if anything does.
+/// The cells of these trees come behind those that are there.
 #[cycle(trees)]
 fn subtrees<'t>(
     alloc: Global,
@@ -69,7 +72,9 @@ fn subtrees<'t>(
     requires of_text { Readable text.now tokens.now }
     requires room { length names.old + length tokens.now < 2 ^ 32 }
     ensures keeps { KeepsNames names.old names.new }
-    ensures read { IfOk result (λ rest. (kids : Forest) × (cells.new.items ≡ cells.old.items ++ cells_of kids) × IsRead (in_parentheses ∷ []) (opening ∷ []) (λ later. ReadsSubtrees later text.now tokens.now kids rest.now) text.now tokens.now rest.now names.old names.new) }
+    ensures read { IfOk result (λ rest. (kids : Forest) × (cells.new.items ≡ cells.old.items ++ cells_of kids)
+        × IsRead (in_parentheses ∷ []) (opening ∷ []) (λ later. ReadsSubtrees later text.now tokens.now kids rest.now)
+        text.now tokens.now rest.now names.old names.new) }
     ensures ends { IfErr result (Ends (in_parentheses ∷ []) (opening ∷ []) tokens.now) }
 {
     let Some(inside) = behind(tokens, Kind::Opening) else {
@@ -95,7 +100,9 @@ fn plains<'t>(
     requires of_text { Readable text.now tokens.now }
     requires room { length names.old + length tokens.now < 2 ^ 32 }
     ensures keeps { KeepsNames names.old names.new }
-    ensures read { IfOk result (λ rest. (kids : Forest) × (cells.new.items ≡ cells.old.items ++ cells_of kids) × IsRead (plains_with comma) (comma ∷ opening ∷ []) (λ later. ReadsPlains later text.now tokens.now kids rest.now) text.now tokens.now rest.now names.old names.new) }
+    ensures read { IfOk result (λ rest. (kids : Forest) × (cells.new.items ≡ cells.old.items ++ cells_of kids) × IsRead
+        (plains_with comma) (comma ∷ opening ∷ []) (λ later. ReadsPlains later text.now tokens.now kids rest.now)
+        text.now tokens.now rest.now names.old names.new) }
     ensures ends { IfErr result (Ends (plains_with comma) (comma ∷ opening ∷ []) tokens.now) }
 {
     let mut rest = plain(alloc, text, tokens, names, cells)?;
@@ -115,7 +122,8 @@ fn tree<'t>(
     requires of_text { Readable text.now tokens.now }
     requires room { length names.old + length tokens.now < 2 ^ 32 }
     ensures keeps { KeepsNames names.old names.new }
-    ensures read { IfOk result (λ found. IsRead (part plain ∷ []) (opening ∷ []) (λ later. ReadsPlain later text.now tokens.now found.0 found.1.now) text.now tokens.now found.1.now names.old names.new) }
+    ensures read { IfOk result (λ found. IsRead (part plain ∷ []) (opening ∷ []) (λ later.
+        ReadsPlain later text.now tokens.now found.0 found.1.now) text.now tokens.now found.1.now names.old names.new) }
     ensures ends { IfErr result (Ends (part plain ∷ []) (opening ∷ []) tokens.now) }
 {
     let mut cells = Vec::new(alloc);
@@ -134,7 +142,8 @@ pub fn rooted<'t>(
     requires of_text { Readable text.now tokens.now }
     requires room { length names.old + length tokens.now < 2 ^ 32 }
     ensures keeps { KeepsNames names.old names.new }
-    ensures read { IfOk result (λ found. IsRead (part plain ∷ []) (opening ∷ []) (λ later. ReadsRooted later text.now tokens.now found.0 found.1 found.2.now) text.now tokens.now found.2.now names.old names.new) }
+    ensures read { IfOk result (λ found. IsRead (part plain ∷ []) (opening ∷ []) (λ later. ReadsRooted later text.now
+        tokens.now found.0 found.1 found.2.now) text.now tokens.now found.2.now names.old names.new) }
     ensures ends { IfErr result (Ends (part plain ∷ []) (opening ∷ []) tokens.now) }
 {
     let (first, _) = label(tokens)?;

@@ -12,7 +12,7 @@ ghost use Rattle.qs_ruletext.specs.Names.{NamesGrow};
 ghost use Rattle.qs_graphtext.specs.Grammar.{chain, graph, line};
 ghost use Rattle.qs_graphtext.specs.Reading.{ReadsTrees, ReadsChain, ReadsChains, ReadsGraph, AreNamed};
 ghost use Rattle.qs_graphtext.specs.Refusals.{CannotGoOn, EndsFrom};
-ghost use Rattle.qs_graphtext.specs.Readers.{Readable, IsRead, Ends, IsNextMark, NextIsMark, plains_with};
+ghost use Rattle.qs_graphtext.specs.working.Readers.{Readable, IsRead, Ends, IsNextMark, NextIsMark, plains_with};
 
 use crate::chain::Chain;
 use crate::plain::rooted;
@@ -58,7 +58,9 @@ fn trees<'t>(
     requires of_text { Readable text.now tokens.now }
     requires room { length names.old + length tokens.now < 2 ^ 32 }
     ensures keeps { KeepsNames names.old names.new }
-    ensures read { IfOk result (λ found. IsRead (plains_with plus) (plus ∷ opening ∷ []) (λ later. ReadsTrees later text.now tokens.now found.0.items found.1.items found.2.now) text.now tokens.now found.2.now names.old names.new) }
+    ensures read { IfOk result (λ found. IsRead (plains_with plus) (plus ∷ opening ∷ [])
+        (λ later. ReadsTrees later text.now tokens.now found.0.items found.1.items found.2.now) text.now tokens.now
+        found.2.now names.old names.new) }
     ensures ends { IfErr result (Ends (plains_with plus) (plus ∷ opening ∷ []) tokens.now) }
 {
     let (first, byte, mut rest) = rooted(alloc, text, tokens, names)?;
@@ -83,7 +85,8 @@ fn chain<'t>(
     requires of_text { Readable text.now tokens.now }
     requires room { length names.old + length tokens.now < 2 ^ 32 }
     ensures keeps { KeepsNames names.old names.new }
-    ensures read { IfOk result (λ found. IsRead (part chain ∷ []) [] (λ later. ReadsChain later text.now tokens.now found.0 found.1.now) text.now tokens.now found.1.now names.old names.new) }
+    ensures read { IfOk result (λ found. IsRead (part chain ∷ []) [] (λ later.
+        ReadsChain later text.now tokens.now found.0 found.1.now) text.now tokens.now found.1.now names.old names.new) }
     ensures some { IfOk result (λ found. length found.1.now < length tokens.now) }
     ensures ends { IfErr result (Ends (part chain ∷ []) [] tokens.now) }
 {
@@ -110,7 +113,9 @@ fn chains<'t>(
     requires of_text { Readable text.now tokens.now }
     requires room { length names.old + length tokens.now < 2 ^ 32 }
     ensures keeps { KeepsNames names.old names.new }
-    ensures read { IfOk result (λ found. IsRead (part chain ∷ repeated (part chain) ∷ []) (a_node_mark ∷ []) (λ later. ReadsChains later text.now tokens.now found.0.items found.1.now) text.now tokens.now found.1.now names.old names.new) }
+    ensures read { IfOk result (λ found. IsRead (part chain ∷ repeated (part chain) ∷ []) (a_node_mark ∷ [])
+        (λ later. ReadsChains later text.now tokens.now found.0.items found.1.now) text.now tokens.now found.1.now
+        names.old names.new) }
     ensures ends { IfErr result (Ends (part chain ∷ repeated (part chain) ∷ []) (a_node_mark ∷ []) tokens.now) }
 {
     let (first, mut rest) = chain(alloc, text, tokens, names)?;
@@ -133,7 +138,8 @@ fn graph<'t>(
     requires of_text { Readable text.now tokens.now }
     requires room { length names.old + length tokens.now < 2 ^ 32 }
     ensures keeps { KeepsNames names.old names.new }
-    ensures read { IfOk result (λ found. IsRead (part graph ∷ []) [] (λ later. ReadsGraph later text.now tokens.now found.0.items found.1.now) text.now tokens.now found.1.now names.old names.new) }
+    ensures read { IfOk result (λ found. IsRead (part graph ∷ []) [] (λ later. ReadsGraph later text.now tokens.now
+        found.0.items found.1.now) text.now tokens.now found.1.now names.old names.new) }
     ensures some { IfOk result (λ found. length found.1.now < length tokens.now) }
     ensures ends { IfErr result (Ends (part graph ∷ []) [] tokens.now) }
 {
@@ -143,13 +149,13 @@ fn graph<'t>(
     Ok((chains, rest))
 }
 
-/// Reads a graph, from `-GRAPHE-` to `-FIN-`, that begins at the place `from` of the list of tokens. The tokens are those
-/// of the text, none opens a 1,001st parenthesis, and there is a number for one more label for each token.
+/// Reads a graph, from `-GRAPHE-` to `-FIN-`, that begins at the place `from` of the list of tokens. The tokens are
+/// those of the text, none opens a 1,001st parenthesis, and there is a number for one more label for each token.
 ///
 /// `Ok` gives the chains, of which there is at least one, and the place behind `-FIN-`. `Syntax` comes with the first
-/// place at which the tokens from `from` on can't go on to a graph, which may be the number of tokens. `Memory` may come
-/// at any time. After every answer the labels of `names` keep their numbers, and there may be new ones: on `Ok` exactly
-/// those that were read and weren't there, each once, in the order of their first occurrence.
+/// place at which the tokens from `from` on can't go on to a graph, which may be the number of tokens. `Memory` may
+/// come at any time. After every answer the labels of `names` keep their numbers, and there may be new ones: on `Ok`
+/// exactly those that were read and weren't there, each once, in the order of their first occurrence.
 pub fn read_chains(
     alloc: Global,
     text: &str,
@@ -162,7 +168,8 @@ pub fn read_chains(
     requires within { from ≤ length tokens.now }
     requires room { length names.old + length tokens.now < 2 ^ 32 }
 
-    ensures read { IfOk result (λ found. ReadsGraph names.new text.now (drop from tokens.now) found.0.items (drop found.1 tokens.now)) }
+    ensures read { IfOk result
+        (λ found. ReadsGraph names.new text.now (drop from tokens.now) found.0.items (drop found.1 tokens.now)) }
     ensures behind { IfOk result (λ found. (from < found.1) × (found.1 ≤ length tokens.now)) }
     ensures ends { IfErr result (EndsFrom tokens.now from) }
 

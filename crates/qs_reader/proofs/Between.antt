@@ -9,8 +9,10 @@ use Rattle.qs_lex.specs.working.Expecting.{goes_on, IsPredictive, BeginAll, NotW
 use Rattle.qs_lex.proofs.Expected.{whole_begins}
 use Rattle.qs_lex.proofs.Predictive.{IsPredicted}
 use Rattle.qs_lex.proofs.Stopping.{front_of}
-use Rattle.qs_reader.specs.Names.{NamesGrow, NamesGrowUpTo}
-use Rattle.qs_reader.specs.Readers.{Reading, rest_of, StopsAt, between, CannotGoOn}
+use Rattle.qs_reader.specs.Names.{NamesGrow}
+use Rattle.qs_reader.specs.working.Names.{NamesGrowUpTo}
+use Rattle.qs_reader.specs.Readers.{Reading, rest_of, between}
+use Rattle.qs_reader.specs.working.Readers.{StopsAt, CannotGoOn}
 use Rattle.qs_reader.proofs.Taking.{stops}
 
 pub drop_twice : (ts : List Token) (m n k : ℕ) → k ≡ m + n → drop n (drop m ts) ≡ drop k ts

@@ -6,8 +6,9 @@ use Rattle.qs_lex.specs.Expecting.{NextIsNo}
 use Rattle.qs_lex.specs.working.Expecting.{first}
 use Rattle.qs_lex.proofs.Expected.{same_itself}
 use Rattle.qs_reader.specs.declared.text_end.TextEnd.{TextEnd}
-use Rattle.qs_reader.specs.Names.{NamesGrowUpTo}
-use Rattle.qs_reader.specs.Readers.{Reading, rest_of, IsNext, Passes, Stays, takes_token, takes_sequence, takes_no_more, takes_more, StopsIn, stops_in_behind, stops_in_more, stops_later, Reads, IsRead, IsReadSoFar, Ends}
+use Rattle.qs_reader.specs.working.Names.{NamesGrowUpTo}
+use Rattle.qs_reader.specs.Readers.{Reading, rest_of, IsNext, Passes, Stays}
+use Rattle.qs_reader.specs.working.Readers.{takes_token, takes_sequence, takes_no_more, takes_more, StopsIn, stops_in_behind, stops_in_more, stops_later, Reads, IsRead, IsReadSoFar, Ends}
 use Rattle.qs_reader.proofs.Naming.{no_names, names_on}
 use Rattle.qs_reader.proofs.Steps.{on_and_on, ends_from}
 

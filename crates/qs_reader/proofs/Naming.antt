@@ -14,7 +14,8 @@ use Rattle.qs_tree.specs.declared.cell.Label.{Label}
 use Rattle.qs_tree.specs.Names.{AreDistinct}
 use Rattle.qs_tree.proofs.NamesLemmas.{Contains-slice_get}
 use Rattle.qs_reader.specs.Readers.{between}
-use Rattle.qs_reader.specs.Names.{AddsName, AddsNameOf, NamesGrow, NamesGrowUpTo}
+use Rattle.qs_reader.specs.Names.{AddsName, AddsNameOf, NamesGrow}
+use Rattle.qs_reader.specs.working.Names.{NamesGrowUpTo}
 
 -- tokens behind tokens
 pub grow_on : (text : List ℕ) (xs ys : List Token) (old middle new : List (List ℕ)) → NamesGrow text xs old middle → NamesGrow text ys middle new → NamesGrow text (xs ++ ys) old new

@@ -11,8 +11,9 @@ use Rattle.qs_lex.proofs.Expected.{same_itself}
 use Rattle.qs_tree.specs.declared.cell.Label.{Label}
 use Rattle.qs_reader.specs.declared.text_end.TextEnd.{TextEnd}
 use Rattle.qs_reader.specs.declared.text_end.TextEnd.TheVariants.{Syntax, Memory}
-use Rattle.qs_reader.specs.Names.{NamesGrowUpTo}
-use Rattle.qs_reader.specs.Readers.{Reading, rest_of, GoesOn, IsPassed, Passes, Stays, NamesLabel, IsNoneHere, EndsHere, IsTaken, takes_token, takes_part, takes_sequence, takes_this, takes_other, leaves_out, takes_member, StopsIn, none_fits, stops_in_part, stops_in_first, stops_in_behind, stops_in_this, stops_in_other, stops_in_member, stops_before, Reads, IsRead, StopsOr, Ends, AToken, a_token, ALabel, a_label, Nothing, nothing, Then, then}
+use Rattle.qs_reader.specs.working.Names.{NamesGrowUpTo}
+use Rattle.qs_reader.specs.Readers.{Reading, rest_of, GoesOn, IsPassed, Passes, Stays, NamesLabel, IsNoneHere, EndsHere}
+use Rattle.qs_reader.specs.working.Readers.{IsTaken, takes_token, takes_part, takes_sequence, takes_this, takes_other, leaves_out, takes_member, StopsIn, none_fits, stops_in_part, stops_in_first, stops_in_behind, stops_in_this, stops_in_other, stops_in_member, stops_before, Reads, IsRead, StopsOr, Ends, AToken, a_token, ALabel, a_label, Nothing, nothing, Then, then}
 use Rattle.qs_reader.proofs.Naming.{no_names, names_on, one_name, no_label}
 use Rattle.qs_reader.proofs.Tokens.{label_sort}
 

@@ -8,7 +8,7 @@ use Rattle.qs_lex.specs.working.Expecting.{nullable, first, starts, may_end, IsP
 use Rattle.qs_lex.proofs.Expected.{Fronts, whole_front}
 use Rattle.qs_lex.proofs.Going.{leads_on, leads_token, leads_part, leads_sequence, leads_this, leads_other, leads_without, leads_with, leads_done, stops_here, stops_behind}
 use Rattle.qs_lex.proofs.Predictive.{IsPredicted, Refused, next_apart, refused_first, refused_last, refused_this, refused_other, refused_member, refused_again, refused_part, leads_into, leads_round}
-use Rattle.qs_reader.specs.Readers.{IsTaken, takes_token, takes_part, takes_sequence, takes_this, takes_other, leaves_out, takes_member, takes_no_more, takes_more, StopsIn, stops_known, none_fits, stops_in_part, stops_in_first, stops_in_behind, stops_in_this, stops_in_other, stops_in_member, stops_before, stops_in_more, stops_later}
+use Rattle.qs_reader.specs.working.Readers.{IsTaken, takes_token, takes_part, takes_sequence, takes_this, takes_other, leaves_out, takes_member, takes_no_more, takes_more, StopsIn, stops_known, none_fits, stops_in_part, stops_in_first, stops_in_behind, stops_in_this, stops_in_other, stops_in_member, stops_before, stops_in_more, stops_later}
 
 pub taken_whole : {Part : Type 0} {line : Grammar Part} {table : Part → Sort → Bool} {f : Form Part} {ts rest : List Token} → IsTaken line table f ts rest → IsWhole line f ts rest
 taken_whole (takes_token e) = whole_token e

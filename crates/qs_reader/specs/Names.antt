@@ -28,8 +28,3 @@ AddsNameOf text t old new =
 abbrev pub NamesGrow : List ℕ → List Token → List (List ℕ) → List (List ℕ) → Type 0
 NamesGrow text [] old new = new ≡ old
 NamesGrow text (t ∷ ts) old new = (next : List (List ℕ)) × AddsNameOf text t old next × NamesGrow text ts next new
-
--- the texts of the labels among the tokens before the rest come behind the names
-abbrev pub NamesGrowUpTo : List ℕ → List Token → List Token → List (List ℕ) → List (List ℕ) → Type 0
-NamesGrowUpTo text tokens rest old new =
-    (passed : List Token) × (tokens ≡ passed ++ rest) × NamesGrow text passed old new

@@ -1,11 +1,13 @@
 //! The reader.
 
-ghost use Rattle.std.specs.Prelude.{◌≡◌, ◌^◌, ◌+◌, ◌<◌, ◌≤◌, [], length, OnOk, IfOk, IfErr, IfSome, IfNone, IsTrue, IsFalse};
+ghost use Rattle.std.specs.Prelude.{◌≡◌, ◌^◌, ◌+◌, ◌<◌, ◌≤◌, [], length, OnOk, IfOk, IfErr, IfSome, IfNone, IsTrue};
+ghost use Rattle.std.specs.Prelude.{IsFalse};
 ghost use Rattle.qs_lex.specs.declared.token.Token.{Token};
 ghost use Rattle.qs_lex.specs.Tokens.{AreTokensOf};
 ghost use Rattle.qs_lex.specs.Grammar.{a_label, sort_of};
 ghost use Rattle.qs_reader.specs.Names.{KeepsNames};
-ghost use Rattle.qs_reader.specs.Readers.{rest_of, IsSign, IsNext, IsPassed, Passes, Stays, NamesLabel, EndsHere, between};
+ghost use Rattle.qs_reader.specs.Readers.{rest_of, IsSign, IsNext, IsPassed, Passes, Stays, NamesLabel, EndsHere};
+ghost use Rattle.qs_reader.specs.Readers.{between};
 
 use crate::labels::label_of;
 use crate::text_end::TextEnd;

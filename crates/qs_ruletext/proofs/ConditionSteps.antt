@@ -10,11 +10,13 @@ use Rattle.qs_pattern.specs.Patterns.{Patterns}
 use Rattle.qs_pattern.specs.Conditions.{Comparing, within, outside, all, any, Condition, Conditions, compared, negated, combined, no_condition, condition_first, condition_of}
 use Rattle.qs_pattern.specs.working.Conditions.{conditions}
 use Rattle.qs_reader.specs.declared.text_end.TextEnd.{TextEnd}
-use Rattle.qs_reader.specs.Readers.{Reading, rest_of, Passes, Stays, EndsHere, Reads, AToken, a_token, Nothing, nothing, Then, then}
+use Rattle.qs_reader.specs.Readers.{Reading, rest_of, Passes, Stays, EndsHere}
+use Rattle.qs_reader.specs.working.Readers.{Reads, AToken, a_token, Nothing, nothing, Then, then}
 use Rattle.qs_reader.proofs.Steps.{token_read, left_out_read, then_read, read_so, this_read, other_read, member_read, part_read, stayed_read, stayed_here, stayed_ends, ends_here, token_ends, part_ends, first_ends, then_ends, this_ends, other_ends, next_is_no}
 use Rattle.qs_ruletext.specs.Grammar.{list, cond, neg, prim}
 use Rattle.qs_ruletext.specs.Reading.{any_of, all_of, comparing_word, ReadsCond, reads_cond, ReadsMoreConjs, no_more_conjs, one_more_conj, ReadsConj, reads_conj, ReadsMoreNegs, no_more_negs, one_more_neg, ReadsNeg, not_negated, reads_negated, ReadsPrim, reads_group, reads_compared}
-use Rattle.qs_ruletext.specs.Readers.{begins_item, IsRead, Ends, a_comparison, ACond, AConj, AList, ANeg, APrim}
+use Rattle.qs_ruletext.specs.Readers.{begins_item}
+use Rattle.qs_ruletext.specs.working.Readers.{IsRead, Ends, a_comparison, ACond, AConj, AList, ANeg, APrim}
 
 -- two lists, compared
 compares : {word : Comparing} {a b : Patterns} (names : List (List ℕ)) (text : List ℕ) (ts rest : List Token) → Then (AList a) (Then (AToken (the_word (comparing_word word))) (AList b)) names text ts rest → ReadsPrim names text ts (compared word a b) rest

@@ -10,7 +10,8 @@ use Rattle.qs_pattern.specs.working.Conditions.{conditions}
 use Rattle.qs_pattern.proofs.ConditionLemmas.{condition-All, condition-Any}
 use Rattle.qs_pattern.specs.Named.{IsConditionNamed}
 use Rattle.qs_pattern.specs.working.Named.{AreConditionsNamed}
-use Rattle.qs_ruletext.specs.Texts.{joined, word_of, tightness, member_text, member_texts, condition_text}
+use Rattle.qs_ruletext.specs.Texts.{joined, tightness, member_text, member_texts, condition_text}
+use Rattle.qs_ruletext.specs.working.Texts.{word_of}
 
 -- these texts, each behind `between`, but the first behind `before`
 abbrev pub begun : List ℕ → List ℕ → List (List ℕ) → List ℕ

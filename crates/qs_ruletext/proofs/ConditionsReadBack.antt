@@ -14,7 +14,8 @@ use Rattle.qs_pattern.specs.Named.{ArePatternsNamed, IsConditionNamed}
 use Rattle.qs_pattern.specs.working.Named.{AreConditionsNamed}
 use Rattle.qs_ruletext.specs.Reading.{comparing_word, ReadsList, any_of, all_of, ReadsCond, reads_cond, ReadsMoreConjs, no_more_conjs, one_more_conj, ReadsConj, reads_conj, ReadsMoreNegs, no_more_negs, one_more_neg, ReadsNeg, not_negated, reads_negated, ReadsPrim, reads_group, reads_compared}
 use Rattle.qs_ruletext.specs.Texts.{list_text, in_parentheses, member_text, member_texts, condition_text, spaced_word}
-use Rattle.qs_ruletext.specs.Written.{AreOnOneLine, HasFullLists, HaveFullLists}
+use Rattle.qs_ruletext.specs.Written.{AreOnOneLine, HasFullLists}
+use Rattle.qs_ruletext.specs.working.Written.{HaveFullLists}
 use Rattle.qs_ruletext.proofs.ReadBack.{Goes, IsOne, IsNone, Both, both, turned, nothing, space, token, spaced}
 use Rattle.qs_ruletext.proofs.HeadsReadBack.{Closes}
 use Rattle.qs_ruletext.proofs.PatternsReadBack.{lists_go}

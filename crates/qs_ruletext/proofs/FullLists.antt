@@ -4,7 +4,8 @@ use Rattle.qs_lex.specs.declared.token.Token.{Token}
 use Rattle.qs_pattern.specs.Patterns.{Patterns, no_pattern, node_first, tree_var_first, forest_var_first, count}
 use Rattle.qs_pattern.specs.Conditions.{Condition, Conditions, no_condition, condition_first}
 use Rattle.qs_ruletext.specs.Reading.{joined, reads_node, reads_tree_variable, ReadsList, reads_list, ReadsItem, reads_tree, reads_forest_variable, any_of, all_of, ReadsCond, reads_cond, ReadsMoreConjs, no_more_conjs, one_more_conj, ReadsConj, reads_conj, ReadsMoreNegs, no_more_negs, one_more_neg, ReadsNeg, not_negated, reads_negated, ReadsPrim, reads_group, reads_compared}
-use Rattle.qs_ruletext.specs.Written.{HasFullLists, HaveFullLists}
+use Rattle.qs_ruletext.specs.Written.{HasFullLists}
+use Rattle.qs_ruletext.specs.working.Written.{HaveFullLists}
 
 no_fewer : (p q : Patterns) → count p ≤ count (joined p q)
 no_fewer no_pattern q = omega arith

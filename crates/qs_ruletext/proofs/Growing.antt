@@ -5,8 +5,8 @@ use Rattle.qs_lex.specs.Grammar.{comma, plus}
 use Rattle.qs_pattern.specs.declared.pattern.Pattern.{Pattern, Node', Tree, Forest}
 use Rattle.qs_pattern.specs.Patterns.{Patterns, no_pattern, node_first, tree_var_first, forest_var_first, pattern_before, patterns}
 use Rattle.qs_pattern.specs.working.Patterns.{one_pattern}
-use Rattle.qs_reader.specs.Readers.{Reads, AToken, a_token, Then, then}
-use Rattle.qs_ruletext.specs.Readers.{ATree, AnItem}
+use Rattle.qs_reader.specs.working.Readers.{Reads, AToken, a_token, Then, then}
+use Rattle.qs_ruletext.specs.working.Readers.{ATree, AnItem}
 use Rattle.qs_ruletext.specs.Reading.{joined, ReadsTree, ReadsItem, ReadsList, reads_list, ReadsMoreItems, no_more_items, one_more_item, ReadsSide, reads_side, ReadsMoreTrees, no_more_trees, one_more_tree}
 
 pub joined-nil : (ps : Patterns) → joined ps no_pattern ≡ ps

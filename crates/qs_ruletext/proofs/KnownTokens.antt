@@ -22,8 +22,9 @@ use Rattle.qs_pattern.specs.declared.variable.Var.{Var}
 use Rattle.qs_ruletext.specs.Reading.{IsLabelOf, IsVariableOf}
 use Rattle.qs_ruletext.specs.Rules.{KeepsNames}
 use Rattle.qs_ruletext.specs.Names.{AddsName, AddsNameOf, NamesGrow}
-use Rattle.qs_ruletext.specs.Cursors.{Readable}
-pub use Rattle.qs_ruletext.specs.Readers.{IsGood, is_variable}
+use Rattle.qs_ruletext.specs.working.Cursors.{Readable}
+pub use Rattle.qs_ruletext.specs.Readers.{IsGood}
+pub use Rattle.qs_ruletext.specs.working.Readers.{is_variable}
 use Rattle.qs_ruletext.proofs.SideSteps.{spelled_good}
 
 -- in these names the token has a number where it is a label, and it is a variable where its sort says so

@@ -4,7 +4,7 @@ use Rattle.qs_lex.specs.declared.token.Token.{Token}
 use Rattle.qs_lex.specs.Grammar.{Sort, a_label}
 use Rattle.qs_lex.specs.Expecting.{same_sort}
 use Rattle.qs_reader.proofs.Naming.{no_label}
-use Rattle.qs_reader.specs.Names.{NamesGrowUpTo}
+use Rattle.qs_reader.specs.working.Names.{NamesGrowUpTo}
 use Rattle.qs_ruletext.specs.Cursors.{IsNext}
 pub use Rattle.qs_reader.proofs.Naming.{grow_on, grow_apart, no_names, names_on, one_name, names_between, one_growth, grow_distinct, adds_name, adds_name_of, place_of}
 

@@ -11,7 +11,8 @@ use Rattle.qs_pattern.specs.Patterns.{Patterns, no_pattern, pattern_before, patt
 use Rattle.qs_pattern.specs.working.Patterns.{one_pattern}
 use Rattle.qs_pattern.proofs.PatternLemmas.{pattern-Node}
 use Rattle.qs_pattern.specs.Named.{IsHeadNamed, ArePatternsNamed}
-use Rattle.qs_ruletext.specs.Texts.{joined, head_text, kids_text, pattern_text, pattern_texts}
+use Rattle.qs_ruletext.specs.Texts.{joined, head_text, kids_text, pattern_texts}
+use Rattle.qs_ruletext.specs.working.Texts.{pattern_text}
 
 pub named_parts : (n : ℕ) (p : Pattern) (us : Patterns) → ArePatternsNamed n (pattern_before p us) → ArePatternsNamed n (one_pattern p) × ArePatternsNamed n us
 named_parts n (Node' h shape kids) us c = ((c.0, c.1, tt), c.2)

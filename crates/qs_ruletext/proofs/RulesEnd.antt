@@ -7,7 +7,7 @@ use Rattle.qs_reader.specs.declared.text_end.TextEnd.{TextEnd}
 use Rattle.qs_reader.specs.declared.text_end.TextEnd.TheVariants.{Syntax, Memory}
 use Rattle.qs_ruletext.specs.Grammar.{rule, line}
 use Rattle.qs_ruletext.specs.Rules.{between, CannotGoOn, NoRuleAt, EndsFrom}
-use Rattle.qs_ruletext.specs.Readers.{table}
+use Rattle.qs_ruletext.specs.working.Readers.{table}
 use Rattle.qs_ruletext.proofs.Tables.{more, all_ok}
 use Rattle.qs_ruletext.proofs.Between.{next_at, between_drop, some_between}
 use Rattle.qs_ruletext.proofs.OneRules.{no_rule_from}

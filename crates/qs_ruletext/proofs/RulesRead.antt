@@ -4,7 +4,7 @@ use Rattle.std.specs.Prelude.{slice_get}
 use Rattle.qs_lex.specs.declared.token.Token.{Token}
 use Rattle.qs_lex.specs.Tokens.{AreTokensOf, IsTokenOf, bytes_of}
 use Rattle.qs_lex.proofs.Readings.{token_stands}
-use Rattle.qs_ruletext.specs.Cursors.{Readable}
+use Rattle.qs_ruletext.specs.working.Cursors.{Readable}
 use Rattle.qs_ruletext.proofs.SideSteps.{spelled_good}
 
 get_behind : (front : List Token) (t : Token) (ts : List Token) → slice_get (front ++ t ∷ ts) (length front) ≡ Some t

@@ -7,7 +7,7 @@ use Rattle.qs_lex.proofs.Expected.{IsTable}
 use Rattle.qs_lex.proofs.Predictive.{IsPredicted}
 use Rattle.qs_lex.proofs.Predicting.{is_good, predicted}
 use Rattle.qs_ruletext.specs.Grammar.{Part, rule, side, tree, list, item, cond, conj, neg, prim, line}
-use Rattle.qs_ruletext.specs.Readers.{table}
+use Rattle.qs_ruletext.specs.working.Readers.{table}
 
 -- with which sorts a whole part may go on
 abbrev pub more : Part → Sort → Bool

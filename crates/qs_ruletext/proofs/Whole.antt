@@ -13,7 +13,7 @@ use Rattle.qs_ruletext.specs.Grammar.{rule, side, tree, list, item, cond, conj, 
 use Rattle.qs_ruletext.specs.Reading.{IsHeadOf, ReadsTree, reads_node, reads_tree_variable, ReadsSubtrees, no_parentheses, nothing_inside, list_inside, ReadsList, reads_list, ReadsMoreItems, no_more_items, one_more_item, ReadsItem, reads_tree, reads_forest_variable, ReadsMoreTrees, no_more_trees, one_more_tree, ReadsSide, reads_side, ReadsCond, reads_cond, ReadsMoreConjs, no_more_conjs, one_more_conj, ReadsConj, reads_conj, ReadsMoreNegs, no_more_negs, one_more_neg, ReadsNeg, not_negated, reads_negated, ReadsPrim, reads_group, reads_compared}
 use Rattle.qs_ruletext.specs.Rules.{ReadsCondIfGiven, no_cond, some_cond, ReadsRule, reads_rule, ReadsRules}
 use Rattle.qs_reader.proofs.Tokens.{label_sort}
-use Rattle.qs_ruletext.specs.Readers.{in_parentheses, condition_if_any}
+use Rattle.qs_ruletext.specs.working.Readers.{in_parentheses, condition_if_any}
 use Rattle.qs_ruletext.proofs.ComparingWords.{comparing_whole}
 
 head_whole : (names : List (List ℕ)) (text : List ℕ) (t : Token) (h : Head) (rest : List Token) → IsHeadOf names text t h → IsWhole line (one a_label ∣ one a_label_variable) (t ∷ rest) rest

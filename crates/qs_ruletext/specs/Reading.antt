@@ -1,17 +1,19 @@
--- What is read from the tokens of trees and conditions: one case for each line of the grammar and each alternative in it.
--- In `Reads.. tokens x rest` the tokens before the rest are read as x.
+-- What is read from the tokens of trees and conditions: one case for each line of the grammar and each alternative in
+-- it. In `Reads.. tokens x rest` the tokens before the rest are read as x.
 use Rattle.std.specs.Prelude.{◌≡◌, ℕ, List, ◌∷◌}
 use Rattle.qs_lex.specs.declared.token.Token.{Token}
 use Rattle.qs_lex.specs.declared.token.Kind.TheVariants.{Variable}
 use Rattle.qs_lex.specs.declared.token.Word.{Word}
 use Rattle.qs_lex.specs.declared.token.Word.TheVariants.{Dans, Hors, Et, Ou, Non}
-use Rattle.qs_lex.specs.Grammar.{Sort, a_label_variable, a_tree_variable, a_forest_variable, the_word, opening, closing, comma, plus, IsOf}
+use Rattle.qs_lex.specs.Grammar.{Sort, a_label_variable, a_tree_variable, a_forest_variable, the_word, opening, closing}
+use Rattle.qs_lex.specs.Grammar.{comma, plus, IsOf}
 pub use Rattle.qs_reader.specs.Names.{IsLabelOf}
 use Rattle.qs_pattern.specs.declared.variable.Var.{Var}
 use Rattle.qs_pattern.specs.declared.pattern.Head.{Head}
 use Rattle.qs_pattern.specs.declared.pattern.Head.TheVariants as head
 use Rattle.qs_pattern.specs.Patterns.{Patterns, no_pattern, node_first, tree_var_first, forest_var_first}
-use Rattle.qs_pattern.specs.Conditions.{Comparing, within, outside, all, any, Condition, Conditions, compared, negated, combined, no_condition, condition_first}
+use Rattle.qs_pattern.specs.Conditions.{Comparing, within, outside, all, any, Condition, Conditions, compared, negated}
+use Rattle.qs_pattern.specs.Conditions.{combined, no_condition, condition_first}
 
 -- the token is this variable, of this sort
 pub record IsVariableOf (sort : Sort) (t : Token) (v : Var) : Type 0 where
@@ -34,21 +36,25 @@ mutual
   -- tree = ( label | labelvar ) [ "(" [ list ] ")" ] | treevar
   pub data ReadsTree (names : List (List ℕ)) (text : List ℕ) : List Token → Patterns → List Token → Type 0 where
     reads_node : {t : Token} {h : Head} {ts rest : List Token} {kids : Patterns}
-        → IsHeadOf names text t h → ReadsSubtrees names text ts kids rest → ReadsTree names text (t ∷ ts) (node_first h kids no_pattern) rest
+        → IsHeadOf names text t h → ReadsSubtrees names text ts kids rest
+        → ReadsTree names text (t ∷ ts) (node_first h kids no_pattern) rest
     reads_tree_variable : {t : Token} {v : Var} {rest : List Token}
         → IsVariableOf a_tree_variable t v → ReadsTree names text (t ∷ rest) (tree_var_first v no_pattern) rest
 
   -- what stands behind a head: [ "(" [ list ] ")" ]. Parentheses with nothing in them leave no trace.
   pub data ReadsSubtrees (names : List (List ℕ)) (text : List ℕ) : List Token → Patterns → List Token → Type 0 where
     no_parentheses : {ts : List Token} → ReadsSubtrees names text ts no_pattern ts
-    nothing_inside : {t u : Token} {rest : List Token} → IsOf opening t → IsOf closing u → ReadsSubtrees names text (t ∷ u ∷ rest) no_pattern rest
+    nothing_inside : {t u : Token} {rest : List Token} → IsOf opening t → IsOf closing u
+        → ReadsSubtrees names text (t ∷ u ∷ rest) no_pattern rest
     list_inside : {t u : Token} {ts rest : List Token} {kids : Patterns}
-        → IsOf opening t → ReadsList names text ts kids (u ∷ rest) → IsOf closing u → ReadsSubtrees names text (t ∷ ts) kids rest
+        → IsOf opening t → ReadsList names text ts kids (u ∷ rest) → IsOf closing u
+        → ReadsSubtrees names text (t ∷ ts) kids rest
 
   -- list = item { "," item }
   pub data ReadsList (names : List (List ℕ)) (text : List ℕ) : List Token → Patterns → List Token → Type 0 where
     reads_list : {ts middle rest : List Token} {first behind : Patterns}
-        → ReadsItem names text ts first middle → ReadsMoreItems names text middle behind rest → ReadsList names text ts (joined first behind) rest
+        → ReadsItem names text ts first middle → ReadsMoreItems names text middle behind rest
+        → ReadsList names text ts (joined first behind) rest
 
   pub data ReadsMoreItems (names : List (List ℕ)) (text : List ℕ) : List Token → Patterns → List Token → Type 0 where
     no_more_items : {ts : List Token} → ReadsMoreItems names text ts no_pattern ts
@@ -71,7 +77,8 @@ pub data ReadsMoreTrees (names : List (List ℕ)) (text : List ℕ) : List Token
 
 pub data ReadsSide (names : List (List ℕ)) (text : List ℕ) : List Token → Patterns → List Token → Type 0 where
   reads_side : {ts middle rest : List Token} {first behind : Patterns}
-      → ReadsTree names text ts first middle → ReadsMoreTrees names text middle behind rest → ReadsSide names text ts (joined first behind) rest
+      → ReadsTree names text ts first middle → ReadsMoreTrees names text middle behind rest
+      → ReadsSide names text ts (joined first behind) rest
 
 -- a cond of one conj is that conj; of several it is `any` of them in order
 abbrev pub any_of : Condition → Conditions → Condition
@@ -92,7 +99,8 @@ mutual
   -- cond = conj { -OU- conj }
   pub data ReadsCond (names : List (List ℕ)) (text : List ℕ) : List Token → Condition → List Token → Type 0 where
     reads_cond : {ts middle rest : List Token} {c : Condition} {cs : Conditions}
-        → ReadsConj names text ts c middle → ReadsMoreConjs names text middle cs rest → ReadsCond names text ts (any_of c cs) rest
+        → ReadsConj names text ts c middle → ReadsMoreConjs names text middle cs rest
+        → ReadsCond names text ts (any_of c cs) rest
 
   pub data ReadsMoreConjs (names : List (List ℕ)) (text : List ℕ) : List Token → Conditions → List Token → Type 0 where
     no_more_conjs : {ts : List Token} → ReadsMoreConjs names text ts no_condition ts
@@ -103,7 +111,8 @@ mutual
   -- conj = neg { -ET- neg }
   pub data ReadsConj (names : List (List ℕ)) (text : List ℕ) : List Token → Condition → List Token → Type 0 where
     reads_conj : {ts middle rest : List Token} {c : Condition} {cs : Conditions}
-        → ReadsNeg names text ts c middle → ReadsMoreNegs names text middle cs rest → ReadsConj names text ts (all_of c cs) rest
+        → ReadsNeg names text ts c middle → ReadsMoreNegs names text middle cs rest
+        → ReadsConj names text ts (all_of c cs) rest
 
   pub data ReadsMoreNegs (names : List (List ℕ)) (text : List ℕ) : List Token → Conditions → List Token → Type 0 where
     no_more_negs : {ts : List Token} → ReadsMoreNegs names text ts no_condition ts
@@ -113,7 +122,8 @@ mutual
 
   -- neg = [ -NON- ] prim
   pub data ReadsNeg (names : List (List ℕ)) (text : List ℕ) : List Token → Condition → List Token → Type 0 where
-    not_negated : {ts rest : List Token} {c : Condition} → ReadsPrim names text ts c rest → ReadsNeg names text ts c rest
+    not_negated : {ts rest : List Token} {c : Condition} → ReadsPrim names text ts c rest
+        → ReadsNeg names text ts c rest
     reads_negated : {t : Token} {ts rest : List Token} {c : Condition}
         → IsOf (the_word Non) t → ReadsPrim names text ts c rest → ReadsNeg names text (t ∷ ts) (negated c) rest
 
@@ -122,5 +132,6 @@ mutual
     reads_group : {t u : Token} {ts rest : List Token} {c : Condition}
         → IsOf opening t → ReadsCond names text ts c (u ∷ rest) → IsOf closing u → ReadsPrim names text (t ∷ ts) c rest
     reads_compared : {word : Comparing} {t : Token} {ts middle rest : List Token} {a b : Patterns}
-        → ReadsList names text ts a (t ∷ middle) → IsOf (the_word (comparing_word word)) t → ReadsList names text middle b rest
+        → ReadsList names text ts a (t ∷ middle) → IsOf (the_word (comparing_word word)) t
+        → ReadsList names text middle b rest
         → ReadsPrim names text ts (compared word a b) rest

@@ -1,5 +1,6 @@
 -- What is read from the tokens of rules, and where rules can't go on.
-use Rattle.std.specs.Prelude.{◌≡◌, ℕ, ◌<◌, ◌≤◌, Bool, true, false, List, [], ◌∷◌, ◌++◌, length, drop, map, filter, Option, Some, None, slice_get}
+use Rattle.std.specs.Prelude.{◌≡◌, ℕ, ◌<◌, ◌≤◌, Bool, true, false, List, [], ◌∷◌, ◌++◌, length, drop, map, filter}
+use Rattle.std.specs.Prelude.{Option, Some, None, slice_get}
 use Rattle.qs_lex.specs.declared.token.Token.{Token}
 use Rattle.qs_lex.specs.declared.token.Kind.{Kind}
 use Rattle.qs_lex.specs.declared.token.Kind.TheVariants.{Bare, Quoted, Variable}
@@ -29,7 +30,8 @@ abbrev pub cell_bytes : List Token → List ℕ
 cell_bytes ts = map (λ t. t.from) (filter (λ t. is_cell t.kind) ts)
 
 -- [ "/" cond ]
-pub data ReadsCondIfGiven (names : List (List ℕ)) (text : List ℕ) : List Token → Option Condition → List Token → Type 0 where
+pub data ReadsCondIfGiven (names : List (List ℕ)) (text : List ℕ) : List Token → Option Condition → List Token
+    → Type 0 where
   no_cond : {ts : List Token} → ReadsCondIfGiven names text ts None ts
   some_cond : {t : Token} {ts rest : List Token} {c : Condition}
       → IsOf slash t → ReadsCond names text ts c rest → ReadsCondIfGiven names text (t ∷ ts) (Some c) rest
@@ -41,8 +43,9 @@ pub data ReadsRule (names : List (List ℕ)) (text : List ℕ) : List Token → 
       → ReadsCondIfGiven names text end condition (u ∷ rest) → IsOf stop u
       → ReadsRule names text ts (record { left = left; right = right; condition = condition }) rest
 
--- what is known of a side, of a condition and of a rule that were read, whatever limits a rule has: they are as those of an
--- accepted rule are, but for their sizes and for variables that are not bound; and each label is one of the first n
+-- what is known of a side, of a condition and of a rule that were read, whatever limits a rule has: they are as those
+-- of an accepted rule are, but for their sizes and for variables that are not bound;
+-- and each label is one of the first n
 pub record IsWellReadSide (n : ℕ) (side : Patterns) : Type 0 where
   pub some : 1 ≤ count side
   pub no_forest_at_top : NoForestAtTop side
@@ -65,7 +68,8 @@ pub record IsWellRead (n : ℕ) (r : UnmarkedRule) : Type 0 where
   pub condition : IsWellReadIfGiven n r.condition
 
 -- the tokens before the rest are read as this rule, and it knows the byte of each of its cells
-pub record ReadsWrittenRule (names : List (List ℕ)) (text : List ℕ) (ts : List Token) (raw : WrittenRule) (rest : List Token) : Type 0 where
+pub record ReadsWrittenRule (names : List (List ℕ)) (text : List ℕ) (ts : List Token) (raw : WrittenRule)
+    (rest : List Token) : Type 0 where
   pub rule : ReadsRule names text ts raw.rule rest
   pub tokens : List Token
   pub are : ts ≡ tokens ++ rest
@@ -74,10 +78,11 @@ pub record ReadsWrittenRule (names : List (List ℕ)) (text : List ℕ) (ts : Li
 -- the tokens before the rest are read as these rules, one behind the other
 abbrev pub ReadsRules : List (List ℕ) → List ℕ → List Token → List WrittenRule → List Token → Type 0
 ReadsRules names text ts [] rest = ts ≡ rest
-ReadsRules names text ts (raw ∷ raws) rest = (middle : List Token) × ReadsWrittenRule names text ts raw middle × ReadsRules names text middle raws rest
+ReadsRules names text ts (raw ∷ raws) rest =
+    (middle : List Token) × ReadsWrittenRule names text ts raw middle × ReadsRules names text middle raws rest
 
--- from `from` on stand whole rules, and then a rule that is begun, isn't whole, and can't go on with the token at `at`, or with
--- the end of the tokens
+-- from `from` on stand whole rules, and then a rule that is begun, isn't whole, and can't go on with the token at `at`,
+-- or with the end of the tokens
 pub record CannotGoOn (tokens : List Token) (from at : ℕ) : Type 0 where
   pub begun : ℕ
   pub whole : IsWhole line (repeated (part rule)) (drop from tokens) (drop begun tokens)
@@ -85,13 +90,15 @@ pub record CannotGoOn (tokens : List Token) (from at : ℕ) : Type 0 where
   pub within : at ≤ length tokens
   pub begins : Begins line (part rule) (between tokens begun at)
   pub not_whole : IsWhole line (part rule) (between tokens begun at) [] → ⊥
-  pub no_further : (t : Token) → slice_get tokens at ≡ Some t → Begins line (part rule) (between tokens begun at ++ t ∷ []) → ⊥
+  pub no_further : (t : Token) → slice_get tokens at ≡ Some t
+      → Begins line (part rule) (between tokens begun at ++ t ∷ []) → ⊥
 
 -- no rule begins at this place: it is the end of the tokens, or the token there begins no rule
 abbrev pub NoRuleAt : List Token → ℕ → Type 0
 NoRuleAt tokens at = (t : Token) → slice_get tokens at ≡ Some t → Begins line (part rule) (t ∷ []) → ⊥
 
--- why no rules were read: a rule that was begun can't go on at this place, or there was no memory, which may come at any time
+-- why no rules were read: a rule that was begun can't go on at this place, or there was no memory,
+-- which may come at any time
 abbrev pub EndsFrom : List Token → ℕ → TextEnd → Type 0
 EndsFrom tokens from (Syntax at) = CannotGoOn tokens from at
 EndsFrom tokens from Memory = Unit {0}

@@ -1,6 +1,6 @@
 -- How rules are written, in UTF-8: the canonical spelling. Patterns, conditions and rules are Colmerauer's (1970); this
 -- spelling is this project's own.
-use Rattle.std.specs.Prelude.{ℕ, nat_le, if◌then◌else◌, List, [], ◌∷◌, ◌++◌, slice_get, unwrap_or, Option, Some, None, codes}
+use Rattle.std.specs.Prelude.{ℕ, nat_le, if◌then◌else◌, List, [], ◌∷◌, ◌++◌, Option, Some, None, codes}
 use Rattle.std.specs.List.{flat_map}
 use Rattle.qs_tree.specs.Text.{name_of, label_text}
 use Rattle.qs_lex.specs.Characters.{star}
@@ -10,10 +10,9 @@ use Rattle.qs_lex.specs.Spelling.{suffix_of, between_dashes, name_of as word_nam
 use Rattle.qs_pattern.specs.declared.variable.Var.{Var}
 use Rattle.qs_pattern.specs.declared.pattern.Head.{Head}
 use Rattle.qs_pattern.specs.declared.pattern.Head.TheVariants as head
-use Rattle.qs_pattern.specs.declared.pattern.Pattern.{Pattern}
 use Rattle.qs_pattern.specs.Patterns.{Patterns, no_pattern, node_first, tree_var_first, forest_var_first}
-use Rattle.qs_pattern.specs.working.Patterns.{one_pattern}
-use Rattle.qs_pattern.specs.Conditions.{Joining, all, any, Condition, Conditions, compared, negated, combined, no_condition, condition_first}
+use Rattle.qs_pattern.specs.Conditions.{Joining, all, any, Condition, Conditions, compared, negated, combined}
+use Rattle.qs_pattern.specs.Conditions.{no_condition, condition_first}
 use Rattle.qs_ruletext.specs.Reading.{comparing_word}
 
 -- These texts one behind the other, with one that stands between two of them.
@@ -40,13 +39,10 @@ kids_text (text ∷ texts) = in_parentheses (joined (codes ",") (text ∷ texts)
 -- How each pattern of a list is written: as trees are, `GN(LE,I*,U*)`.
 abbrev pub pattern_texts : List (List ℕ) → Patterns → List (List ℕ)
 pattern_texts names no_pattern = []
-pattern_texts names (node_first h kids behind) = (head_text names h ++ kids_text (pattern_texts names kids)) ∷ pattern_texts names behind
+pattern_texts names (node_first h kids behind) =
+    (head_text names h ++ kids_text (pattern_texts names kids)) ∷ pattern_texts names behind
 pattern_texts names (tree_var_first v behind) = variable_text v ∷ pattern_texts names behind
 pattern_texts names (forest_var_first v behind) = variable_text v ∷ pattern_texts names behind
-
--- How one pattern is written.
-abbrev pub pattern_text : List (List ℕ) → Pattern → List ℕ
-pattern_text names p = unwrap_or (slice_get (pattern_texts names (one_pattern p)) 0) []
 
 -- A list in a condition, and a side of a rule: `U*,V*` and `GN(U*) + DORT`.
 abbrev pub list_text : List (List ℕ) → Patterns → List ℕ
@@ -77,16 +73,11 @@ abbrev pub joining_word : Joining → Word
 joining_word all = Et
 joining_word any = Ou
 
--- The word of a condition, as it stands between its lists or its members, or before its one member.
-abbrev pub word_of : Condition → List ℕ
-word_of (compared word a b) = spaced_word (comparing_word word)
-word_of (negated c) = codes "-NON- "
-word_of (combined word cs) = spaced_word (joining_word word)
-
 -- How a condition is written: `U* -DANS- V*`, `-NON- U* -HORS- X,Y`, members joined by ` -ET- ` and by ` -OU- `.
 abbrev mutual
   pub condition_text : List (List ℕ) → Condition → List ℕ
-  condition_text names (compared word a b) = list_text names a ++ (spaced_word (comparing_word word) ++ list_text names b)
+  condition_text names (compared word a b) =
+      list_text names a ++ (spaced_word (comparing_word word) ++ list_text names b)
   condition_text names (negated c) = codes "-NON- " ++ member_text 3 c (condition_text names c)
   condition_text names (combined word cs) =
       joined (spaced_word (joining_word word)) (member_texts names (joining_tightness word) cs)
@@ -94,7 +85,8 @@ abbrev mutual
   -- the members of a condition of this tightness
   pub member_texts : List (List ℕ) → ℕ → Conditions → List (List ℕ)
   member_texts names outer no_condition = []
-  member_texts names outer (condition_first c cs) = member_text outer c (condition_text names c) ∷ member_texts names outer cs
+  member_texts names outer (condition_first c cs) =
+      member_text outer c (condition_text names c) ∷ member_texts names outer cs
 
 -- How a rule is written: `GN(U*) + GV == P(U*) / U* -HORS- X.`
 abbrev pub condition_part : List (List ℕ) → Option Condition → List ℕ

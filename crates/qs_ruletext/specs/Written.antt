@@ -2,8 +2,7 @@
 use Rattle.std.specs.Prelude.{◌≡◌, ℕ, ◌≤◌, List, Some, slice_get, not}
 use Rattle.qs_lex.specs.Characters.{ends_line, Each}
 use Rattle.qs_pattern.specs.Patterns.{count}
-use Rattle.qs_pattern.specs.Conditions.{Condition, Conditions, EachList}
-use Rattle.qs_pattern.specs.working.Conditions.{EachListOfAll}
+use Rattle.qs_pattern.specs.Conditions.{Condition, EachList}
 use Rattle.qs_pattern.specs.Rules.{UnmarkedRule}
 use Rattle.qs_ruletext.specs.Texts.{rule_text}
 
@@ -14,9 +13,6 @@ AreOnOneLine names = (k : ℕ) (name : List ℕ) → slice_get names k ≡ Some 
 -- each list that a condition compares has a pattern
 abbrev pub HasFullLists : Condition → Type 0
 HasFullLists c = EachList (λ list. 1 ≤ count list) c
-
-abbrev pub HaveFullLists : Conditions → Type 0
-HaveFullLists cs = EachListOfAll (λ list. 1 ≤ count list) cs
 
 -- The rule as it is written. No text of a rule has the mark.
 abbrev pub written : List (List ℕ) → UnmarkedRule → List ℕ

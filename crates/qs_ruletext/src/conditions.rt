@@ -8,7 +8,7 @@ ghost use Rattle.qs_reader.specs.Names.{KeepsNames};
 ghost use Rattle.qs_reader.specs.Readers.{rest_of};
 ghost use Rattle.qs_ruletext.specs.Grammar.{cond, conj, neg, prim};
 ghost use Rattle.qs_ruletext.specs.Reading.{any_of, all_of};
-ghost use Rattle.qs_ruletext.specs.Readers.{a_comparison, IsRead, Ends, ACond, AConj, ANeg, APrim};
+ghost use Rattle.qs_ruletext.specs.working.Readers.{a_comparison, IsRead, Ends, ACond, AConj, ANeg, APrim};
 
 use crate::sides::list;
 use qs_lex::{Kind, Word};

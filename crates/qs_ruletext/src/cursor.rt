@@ -3,7 +3,8 @@
 ghost use Rattle.std.specs.Prelude.{◌≡◌, false, [], ◌∷◌, IfSome, IfNone, IfOk, IfErr, IsTrue, IsFalse, length};
 ghost use Rattle.qs_lex.specs.Grammar.{sort_of, a_tree_variable, a_forest_variable};
 ghost use Rattle.qs_lex.specs.Expecting.{same_sort, NextIsNo};
-ghost use Rattle.qs_ruletext.specs.Cursors.{IsSign, IsGood, IsNext, IsNextVariable, IsNextGood, IsStart, begins_item, begins_tree, BeginsTree};
+ghost use Rattle.qs_ruletext.specs.Cursors.{IsSign, IsGood, IsNext, IsNextVariable, IsNextGood, IsStart, begins_item};
+ghost use Rattle.qs_ruletext.specs.Cursors.{begins_tree, BeginsTree};
 
 use qs_lex::{Kind, Token};
 use qs_pattern::{Var, VarClass};

@@ -21,11 +21,18 @@ impl Model for RawRule {
     ghost use Rattle.qs_pattern.specs.Patterns.{patterns};
     ghost use Rattle.qs_pattern.specs.Conditions.{condition_of};
     ghost use Rattle.qs_ruletext.specs.WrittenRules.{WrittenRule};
-    ghost use Rattle.qs_ruletext.specs.Codes.{written_rule_code};
+    ghost use Rattle.qs_ruletext.specs.working.Codes.{written_rule_code};
 
     ghost Value = { WrittenRule };
 
     ghost coded = { written_rule_code };
 
-    ghost view = { λ r. record { rule = record { left = patterns r.left.items; right = patterns r.right.items; condition = option_map condition_of r.cond }; at = r.at.items } };
+    ghost view = { λ r. record {
+      rule = record {
+        left = patterns r.left.items;
+        right = patterns r.right.items;
+        condition = option_map condition_of r.cond;
+      };
+      at = r.at.items;
+    } };
 }

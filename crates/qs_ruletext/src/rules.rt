@@ -11,7 +11,7 @@ ghost use Rattle.qs_reader.specs.Names.{KeepsNames, NamesGrow};
 ghost use Rattle.qs_reader.specs.Readers.{rest_of, between};
 ghost use Rattle.qs_ruletext.specs.Grammar.{rule, line};
 ghost use Rattle.qs_ruletext.specs.Rules.{ReadsRules, is_cell, cell_bytes, CannotGoOn, NoRuleAt, EndsFrom, IsWellRead};
-ghost use Rattle.qs_ruletext.specs.Readers.{condition_if_any, IsRead, Ends, ACondIfGiven, AWrittenRule};
+ghost use Rattle.qs_ruletext.specs.working.Readers.{condition_if_any, IsRead, Ends, ACondIfGiven, AWrittenRule};
 
 use crate::conditions::condition;
 use crate::raw::RawRule;
@@ -82,13 +82,13 @@ fn rule(reader: &mut Reader<'_>, names: &mut Names) -> Result<RawRule, TextEnd>
     })
 }
 
-/// The rules that stand in the tokens of the text from this place on, as far as the next token can begin one, and the place
-/// behind them.
+/// The rules that stand in the tokens of the text from this place on, as far as the next token can begin one, and the
+/// place behind them.
 ///
-/// `Syntax` comes exactly where a rule that was begun can't go on, with the place of the first token that doesn't fit, or the
-/// number of tokens where they end within a rule. `Memory` may come at any time. After every answer `names` keeps its texts
-/// and numbers, and may hold further texts: on `Ok` exactly those of the labels that were read and that it didn't hold, each
-/// once, in the order of their first occurrence. Every label that was read is below `names.len()`.
+/// `Syntax` comes exactly where a rule that was begun can't go on, with the place of the first token that doesn't fit,
+/// or the number of tokens where they end within a rule. `Memory` may come at any time. After every answer `names`
+/// keeps its texts and numbers, and may hold further texts: on `Ok` exactly those of the labels that were read and that
+/// it didn't hold, each once, in the order of their first occurrence. Every label that was read is below `names.len()`.
 pub fn read_rules(
     alloc: Global,
     text: &str,
@@ -102,9 +102,11 @@ pub fn read_rules(
     requires room { length names.old + length tokens.now < 2 ^ 32 }
     ensures keeps { KeepsNames names.old names.new }
     // In these names, and in all that keep them.
-    ensures read { IfOk result (λ found. (later : _) → KeepsNames names.new later → ReadsRules later text.now (drop from tokens.now) found.0.items (drop found.1 tokens.now)) }
+    ensures read { IfOk result (λ found. (later : _) → KeepsNames names.new later
+        → ReadsRules later text.now (drop from tokens.now) found.0.items (drop found.1 tokens.now)) }
     ensures made { IfOk result (λ found. All (λ raw. IsWellRead (length names.new) raw.rule) found.0.items) }
-    ensures whole { IfOk result (λ found. IsWhole line (repeated (part rule)) (drop from tokens.now) (drop found.1 tokens.now)) }
+    ensures whole { IfOk result
+        (λ found. IsWhole line (repeated (part rule)) (drop from tokens.now) (drop found.1 tokens.now)) }
     ensures place { IfOk result (λ found. (from ≤ found.1) × (found.1 ≤ length tokens.now)) }
     ensures behind { IfOk result (λ found. NoRuleAt tokens.now found.1) }
     ensures names { IfOk result (λ found. NamesGrow text.now (between tokens.now from found.1) names.old names.new) }

@@ -5,7 +5,9 @@ ghost use Rattle.qs_pattern.specs.Patterns.{patterns, count};
 ghost use Rattle.qs_pattern.specs.working.Patterns.{one_pattern};
 ghost use Rattle.qs_pattern.specs.Conditions.{condition_of};
 ghost use Rattle.qs_pattern.specs.Named.{IsHeadNamed, ArePatternsNamed, IsConditionNamed, IsNamedIfGiven};
-ghost use Rattle.qs_ruletext.specs.Texts.{variable_text, head_text, pattern_text, pattern_texts, joined, side_text, list_text, tightness, word_of, member_text, condition_text, condition_part, rule_text};
+ghost use Rattle.qs_ruletext.specs.Texts.{variable_text, head_text, pattern_texts, joined, side_text, list_text};
+ghost use Rattle.qs_ruletext.specs.Texts.{tightness, member_text, condition_text, condition_part, rule_text};
+ghost use Rattle.qs_ruletext.specs.working.Texts.{pattern_text, word_of};
 
 use qs_pattern::{Cond, Head, Pattern, Var};
 use qs_tree::{Names, write_label};
@@ -73,7 +75,8 @@ fn append_patterns(
     out: &mut Vec<u8>,
 ) -> Result<(), Memory>
     requires { ArePatternsNamed (length names.now) (patterns list.now) }
-    ensures ok { OnOk result (out.new.items ≡ out.old.items ++ joined between.now (pattern_texts names.now (patterns list.now))) }
+    ensures ok { OnOk result (out.new.items
+        ≡ out.old.items ++ joined between.now (pattern_texts names.now (patterns list.now))) }
     ensures err { OnErr result (take (length out.old.items) out.new.items ≡ out.old.items) }
 {
     let [first, rest @ ..] = list else {
@@ -158,7 +161,8 @@ fn append_member(
     out: &mut Vec<u8>,
 ) -> Result<(), Memory>
     requires { IsConditionNamed (length names.now) (condition_of member.now) }
-    ensures ok { OnOk result (out.new.items ≡ out.old.items ++ member_text outer (condition_of member.now) (condition_text names.now (condition_of member.now))) }
+    ensures ok { OnOk result (out.new.items ≡ out.old.items
+        ++ member_text outer (condition_of member.now) (condition_text names.now (condition_of member.now))) }
     ensures err { OnErr result (take (length out.old.items) out.new.items ≡ out.old.items) }
 {
     if tightness(member) > outer {
@@ -182,7 +186,8 @@ fn append_rule(
     requires left { ArePatternsNamed (length names.now) (patterns left.now) }
     requires right { ArePatternsNamed (length names.now) (patterns right.now) }
     requires condition { IsNamedIfGiven (length names.now) (option_map (λ c. condition_of c.now) condition) }
-    ensures ok { OnOk result (out.new.items ≡ out.old.items ++ rule_text names.now (patterns left.now) (patterns right.now) (option_map (λ c. condition_of c.now) condition.entry)) }
+    ensures ok { OnOk result (out.new.items ≡ out.old.items ++ rule_text names.now (patterns left.now)
+        (patterns right.now) (option_map (λ c. condition_of c.now) condition.entry)) }
     ensures err { OnErr result (take (length out.old.items) out.new.items ≡ out.old.items) }
 {
     append_patterns(alloc, names, left, b" + ", out)?;
@@ -211,7 +216,8 @@ pub fn write_rule(
     requires left { ArePatternsNamed (length names.now) (patterns left.now) }
     requires right { ArePatternsNamed (length names.now) (patterns right.now) }
     requires condition { IsNamedIfGiven (length names.now) (option_map (λ c. condition_of c.now) condition) }
-    ensures ok { OnOk result (out.new.items ≡ out.old.items ++ rule_text names.now (patterns left.now) (patterns right.now) (option_map (λ c. condition_of c.now) condition.entry)) }
+    ensures ok { OnOk result (out.new.items ≡ out.old.items ++ rule_text names.now (patterns left.now)
+        (patterns right.now) (option_map (λ c. condition_of c.now) condition.entry)) }
     ensures err { OnErr result (out.new.items ≡ out.old.items) }
 {
     let before = out.len();

@@ -18,7 +18,7 @@ use Rattle.clap.specs.declared.builder.command.Command.TheViews.{out-Command}
 use Rattle.clap.specs.declared.builder.range.ValueRange.{ValueRange}
 use Rattle.clap.specs.declared.parser.matches.ArgMatches.{ArgMatches}
 use Rattle.qsys.specs.Words.{number_option, required_word, simple_command}
-use Rattle.qsys.specs.Options.{HasNumber, HasNumbers}
+use Rattle.qsys.specs.working.Options.{HasNumber, HasNumbers}
 use Rattle.qsys.proofs.OptionLemmas.{IsNumberOption, option_read}
 
 abbrev rules : List Rule

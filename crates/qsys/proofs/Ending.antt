@@ -15,7 +15,7 @@ use Rattle.qsys.specs.declared.job.Job.{Job}
 use Rattle.qsys.specs.declared.status.Status.{Status}
 use Rattle.qsys.specs.declared.status.Status.TheVariants.{Done, Refused}
 use Rattle.qsys.specs.Defined.{IsDefined, of_refused, of_deck, IsDone, Reads, status_of}
-use Rattle.qsys.specs.Cascading.{Delivers, DeliversCascade, IsAnswered, IsWritten}
+use Rattle.qsys.specs.working.Cascading.{Delivers, DeliversCascade, IsAnswered, IsWritten}
 
 -- the blocks of the cascade of a deck are what is defined for its text
 pub cascade_defined : (job : Job) (bytes : List ℕ) (names : List (List ℕ)) (grammars : List Grammar) (graph : QGraph) (old new : Option (List ℕ)) (answer : Status)

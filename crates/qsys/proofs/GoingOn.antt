@@ -23,9 +23,10 @@ use Rattle.qs_deck.specs.Named.{AreSystemsNamed}
 use Rattle.qsys.specs.declared.status.Status.{Status}
 use Rattle.qsys.specs.declared.status.Status.TheVariants.{Done, Limit, WriteFault, Memory}
 use Rattle.qsys.specs.Outcomes.{block, blocks, IsOutcome}
-use Rattle.qsys.specs.Ends.{left_of}
+use Rattle.qsys.specs.working.Ends.{left_of}
 use Rattle.qsys.specs.Defined.{status_of}
-use Rattle.qsys.specs.Cascading.{DeliversCascade, AreAccepted, CanGoOn, HasCome}
+use Rattle.qsys.specs.Cascading.{AreAccepted}
+use Rattle.qsys.specs.working.Cascading.{DeliversCascade, CanGoOn, HasCome}
 
 -- proper prefixes of what is written
 

@@ -20,8 +20,8 @@ use Rattle.qsys.specs.declared.job.Job.{Job}
 use Rattle.qsys.specs.declared.status.Status.{Status}
 use Rattle.qsys.specs.declared.status.Status.TheVariants.{Done, Limit, WriteFault, Memory}
 use Rattle.qsys.specs.Answers.{WritesDefined, WritesProperPrefix, EndsAsDefined}
-use Rattle.qsys.specs.Cascading.{IsWritten}
-use Rattle.qsys.specs.Ends.{left_of, ending_of}
+use Rattle.qsys.specs.working.Cascading.{IsWritten}
+use Rattle.qsys.specs.working.Ends.{left_of, ending_of}
 use Rattle.qsys.specs.Defined.{IsDefined, of_made, IsMadeOf, status_of, summary}
 
 -- the made graph is small

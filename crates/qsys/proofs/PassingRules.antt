@@ -21,7 +21,8 @@ use Rattle.qs_pattern.specs.working.Conditions.{EachListOfAll}
 use Rattle.qs_pattern.specs.Rules.{UnmarkedRule, IsInClassIfGiven}
 use Rattle.qs_ruletext.specs.Reading.{IsVariableOf, comparing_word}
 use Rattle.qs_ruletext.specs.Texts.{joined, in_parentheses, variable_text, head_text, kids_text, pattern_texts, list_text, side_text, joining_tightness, tightness, spaced_word, joining_word, member_text, condition_text, member_texts, condition_part}
-use Rattle.qs_ruletext.specs.Written.{HasFullLists, HaveFullLists, written}
+use Rattle.qs_ruletext.specs.Written.{HasFullLists, written}
+use Rattle.qs_ruletext.specs.working.Written.{HaveFullLists}
 use Rattle.qs_ruletext.proofs.ReadBack.{token, space, spaced}
 use Rattle.qs_ruletext.proofs.HeadsReadBack.{Closes, label_variable_goes, tree_variable_goes, forest_variable_goes}
 use Rattle.qsys.proofs.Neighbours.{compares, ends, beside, comparing_compares, end_before, not_behind}

@@ -21,7 +21,7 @@ use Rattle.clap.proofs.OnLiterals.{clap_on_literals}
 use Rattle.clap.proofs.CallerReads.{signed_reads}
 use Rattle.clap.proofs.WalkLemmas.{first_value-rows, one_text-rows}
 use Rattle.qsys.specs.Words.{command_of, job_in, job_of, job_with, number_in, simple_command, AreRefused, IsJobOf}
-use Rattle.qsys.specs.Options.{HasNumber}
+use Rattle.qsys.specs.working.Options.{HasNumber}
 use Rattle.qsys.specs.declared.job.Command.{Command}
 use Rattle.qsys.specs.declared.job.Job.{Job}
 use Rattle.qsys.specs.declared.words.WordsEnd.{WordsEnd}

@@ -1,12 +1,13 @@
--- What an answer of the program says of the bytes that were read and of those that were written. Whether a sink tells what
--- was written to it never changes, so an equation between optional lists says both. This project's own.
+-- What an answer of the program says of the bytes that were read and of those that were written. Whether a sink tells
+-- what was written to it never changes, so an equation between optional lists says both. This project's own.
 use Rattle.std.specs.Prelude.{◌≡◌, ◌⊎◌, ℕ, ◌<◌, List, ◌++◌, length, Option}
 use Rattle.std.specs.Io.KnownBytes.{append_known}
 use Rattle.qs_io.specs.Devices.{AppendsProperPrefix}
 use Rattle.qs_io.specs.Limits.{most_text_bytes}
 use Rattle.qsys.specs.declared.job.Job.{Job}
 use Rattle.qsys.specs.declared.status.Status.{Status}
-use Rattle.qsys.specs.declared.status.Status.TheVariants.{Done, Usage, Refused, Limit, ReadFault, TooLong, WriteFault, Memory}
+use Rattle.qsys.specs.declared.status.Status.TheVariants.{Done, Usage, Refused, Limit, ReadFault, TooLong, WriteFault}
+use Rattle.qsys.specs.declared.status.Status.TheVariants.{Memory}
 use Rattle.qsys.specs.Defined.{IsDefined}
 
 -- The whole text that is defined for these bytes, with this status, was written.

@@ -1,5 +1,5 @@
--- What several calls of the program promise alike, of the answer and of a source and a sink before the call and behind it. Each
--- fact stands here once, as a field with a name of its own. This project's own.
+-- What several calls of the program promise alike, of the answer and of a source and a sink before the call and behind
+-- it. Each fact stands here once, as a field with a name of its own. This project's own.
 use Rattle.std.specs.Prelude.{◌≡◌, ◌≢◌, ◌⊎◌, ◌↔◌, ℕ, ◌+◌, ◌≤◌, List, length, Option, Some}
 use Rattle.std.specs.Io.KnownBytes.{IsAtEnd, append_known}
 use Rattle.qs_io.specs.declared.device.Source.{Ghosts as SourceFacts}
@@ -24,8 +24,8 @@ pub record TellsWriteFaults (before behind : ℕ) (status : Status) : Type 0 whe
   -- the count never falls
   pub sink_count : before ≤ behind
 
--- By a source's count of faults and by what it has given, before a call and behind it: it failed exactly where the answer says
--- so, and gave too many bytes exactly where the answer says so.
+-- By a source's count of faults and by what it has given, before a call and behind it: it failed exactly where the
+-- answer says so, and gave too many bytes exactly where the answer says so.
 pub record TellsReadFaults (before behind : ℕ) (given given' : List ℕ) (status : Status) : Type 0 where
   -- this answer comes only where the source failed
   pub read_fault : status ≡ ReadFault → HasRisen before behind
@@ -37,11 +37,13 @@ pub record TellsReadFaults (before behind : ℕ) (given given' : List ℕ) (stat
   pub gives : Gives given given' (most_text_bytes + 1) (status ≡ TooLong)
 
 -- Why an answer comes that is no whole text, and what was done with the source and the sink then.
-pub record HasCause {X Y : Type 0} (S : SourceFacts X) (K : SinkFacts Y) (source source' : X) (sink sink' : Y) (status : Status) : Type 0 where
+pub record HasCause {X Y : Type 0} (S : SourceFacts X) (K : SinkFacts Y) (source source' : X) (sink sink' : Y)
+    (status : Status) : Type 0 where
   pub reads : TellsReadFaults (S.faults source) (S.faults source') (S.given source) (S.given source') status
   pub writes : TellsWriteFaults (K.faults sink) (K.faults sink') status
   -- at most one byte more than a text may have is taken from what was left, and a text is too long exactly where it is
-  pub too_long : (n : ℕ) × TakesBytes (S.left source) (S.left source') n × (n ≤ most_text_bytes + 1) × (status ≡ TooLong ↔ (n ≡ most_text_bytes + 1))
+  pub too_long : (n : ℕ) × TakesBytes (S.left source) (S.left source') n × (n ≤ most_text_bytes + 1)
+      × (status ≡ TooLong ↔ (n ≡ most_text_bytes + 1))
   -- where the source failed or has too many bytes, nothing is written
   pub nothing_written : (status ≡ ReadFault) ⊎ (status ≡ TooLong) → K.written sink' ≡ K.written sink
 
@@ -52,7 +54,8 @@ pub record IsAnswerOfMade (status : Status) : Type 0 where
   pub not_too_long : status ≢ TooLong
 
 -- A job was done, from a source to a sink.
-pub record DoesJob {X Y : Type 0} (S : SourceFacts X) (K : SinkFacts Y) (job : Job) (source source' : X) (sink sink' : Y) (status : Status) : Type 0 where
+pub record DoesJob {X Y : Type 0} (S : SourceFacts X) (K : SinkFacts Y) (job : Job) (source source' : X)
+    (sink sink' : Y) (status : Status) : Type 0 where
   -- with no fault and not too many bytes, only memory can be wanting
   pub complete : (bytes : List ℕ) → S.left source ≡ Some bytes → length bytes ≤ most_text_bytes
       → ¬ HasRisen (S.faults source) (S.faults source') → ¬ HasRisen (K.faults sink) (K.faults sink')
@@ -75,4 +78,5 @@ pub record WritesUsage (old new : Option (List ℕ)) (status : Status) : Type 0 
 pub record AnswersWords (words : List (List ℕ)) (old new : Option (List ℕ)) (status : Status) : Type 0 where
   pub usage : status ≡ Usage → AreRefused words × (new ≡ append_known old usage_line)
   pub refused_words : AreRefused words
-      → (status ≡ Usage) ⊎ ((status ≡ WriteFault) × AppendsProperPrefix old new usage_line) ⊎ ((status ≡ Memory) × (new ≡ old))
+      → (status ≡ Usage) ⊎ ((status ≡ WriteFault) × AppendsProperPrefix old new usage_line)
+      ⊎ ((status ≡ Memory) × (new ≡ old))

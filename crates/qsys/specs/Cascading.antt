@@ -1,66 +1,9 @@
--- How far a run has come, and what it answers. `run_still` is proved against `Answers`, and not against this.
-use Rattle.std.specs.Prelude.{◌≡◌, ◌⊎◌, ℕ, ◌+◌, ◌*◌, ◌≤◌, List, ◌++◌, length, Option, Result, Ok, Err}
-use Rattle.std.proofs.Common.{Global}
-use Rattle.std.specs.declared.vec.Vec.{Vec}
-use Rattle.std.specs.Io.KnownBytes.{append_known}
+-- Grammars whose rules are accepted.
+use Rattle.std.specs.Prelude.{List}
 use Rattle.qs_tree.specs.Lists.{◌∈◌}
 use Rattle.qs_pattern.specs.Rules.{Rule, IsAccepted}
-use Rattle.qs_graph.specs.Graphs.{QGraph, IsValid}
-use Rattle.qs_graphtext.specs.Texts.{AreArcsNamed}
-use Rattle.qs_io.specs.Devices.{AppendsProperPrefix}
-use Rattle.qs_clean.specs.Cascades.{Ending}
 use Rattle.qs_deck.specs.Decks.{Grammar}
-use Rattle.qsys.specs.declared.job.Job.{Job}
-use Rattle.qsys.specs.declared.status.Status.{Status}
-use Rattle.qsys.specs.declared.status.Status.TheVariants.{WriteFault, Memory}
-use Rattle.qsys.specs.Outcomes.{IsOutcome}
-use Rattle.qsys.specs.Defined.{IsDefined, status_of}
-
--- Of a text that is to be written with this status, all was written, and the answer is the status; or a proper
--- prefix, and the answer is that the sink failed or that memory was wanting.
-abbrev pub Delivers : Option (List ℕ) → Option (List ℕ) → List ℕ → Status → Status → Type 0
-Delivers old new text status answer =
-    ((answer ≡ status) × (new ≡ append_known old text))
-    ⊎ (((answer ≡ WriteFault) ⊎ (answer ≡ Memory)) × AppendsProperPrefix old new text)
-
--- Where there was memory for the text, it was delivered; where there was none, nothing was written.
-abbrev pub IsWritten : {E : Type 0} → Result (Vec ℕ Global) E → Option (List ℕ) → Option (List ℕ) → Status → Status → Type 0
-IsWritten (Ok text) old new status answer = Delivers old new text.items status answer
-IsWritten (Err e) old new status answer = (answer ≡ Memory) × (new ≡ old)
-
--- The blocks of a cascade were delivered.
-pub record DeliversCascade (limit : ℕ) (names : List (List ℕ)) (graph : QGraph) (grammars : List Grammar) (old new : Option (List ℕ)) (answer : Status) : Type 0 where
-  pub text : List ℕ
-  pub ending : Ending
-  pub outcome : IsOutcome limit names graph grammars text ending
-  pub delivered : Delivers old new text (status_of ending) answer
-
--- The text that is defined was delivered.
-pub record DeliversDefined (job : Job) (bytes : List ℕ) (old new : Option (List ℕ)) (answer : Status) : Type 0 where
-  pub text : List ℕ
-  pub status : Status
-  pub defined : IsDefined job bytes text status
-  pub delivered : Delivers old new text status answer
-
--- That, or memory was wanting before a text was found, and nothing was written.
-abbrev pub IsAnswered : Job → List ℕ → Option (List ℕ) → Option (List ℕ) → Status → Type 0
-IsAnswered job bytes old new answer = ((answer ≡ Memory) × (new ≡ old)) ⊎ DeliversDefined job bytes old new answer
 
 -- The rules of these grammars are accepted.
 abbrev pub AreAccepted : List Grammar → Type 0
 AreAccepted grammars = (grammar : Grammar) → grammar ∈ grammars → (rule : Rule) → rule ∈ grammar.rules → IsAccepted rule
-
--- A valid graph on which so many grammars can still be run: its labels are named, and there is room for 1,600,000 arcs and
--- nodes more for each of the grammars, which is 16 for each firing of the greatest limit.
-pub record CanGoOn (names : List (List ℕ)) (graph : QGraph) (grammars : ℕ) : Type 0 where
-  pub valid : IsValid graph
-  pub named : AreArcsNamed (length names) graph.arcs
-  pub arcs : length graph.arcs + 1600000 * grammars ≤ 410000000
-  pub nodes : graph.nodes + 1600000 * grammars ≤ 410000000
-
--- Some grammars of a cascade from a graph have been run and have left the graph `now`; their blocks were written. The others
--- go on with that graph: what they leave is what is left to write.
-pub record HasCome (limit : ℕ) (names : List (List ℕ)) (graph : QGraph) (grammars : List Grammar) (old new : Option (List ℕ)) (now : QGraph) (others : List Grammar) : Type 0 where
-  pub front : List ℕ
-  pub written : new ≡ append_known old front
-  pub goes_on : (text : List ℕ) (ending : Ending) → IsOutcome limit names now others text ending → IsOutcome limit names graph grammars (front ++ text) ending

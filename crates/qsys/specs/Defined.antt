@@ -37,13 +37,15 @@ pub record IsRefusal (bytes text : List ℕ) (status : Status) : Type 0 where
   pub status_is : status ≡ Refused
 
 -- To run is to write the blocks of the cascade.
-pub record IsRunOf (limit : ℕ) (names : List (List ℕ)) (grammars : List Grammar) (graph : QGraph) (text : List ℕ) (status : Status) : Type 0 where
+pub record IsRunOf (limit : ℕ) (names : List (List ℕ)) (grammars : List Grammar) (graph : QGraph) (text : List ℕ)
+    (status : Status) : Type 0 where
   pub ending : Ending
   pub outcome : IsOutcome limit names graph grammars text ending
   pub status_is : status ≡ status_of ending
 
 -- To check is to write the whole deck.
-pub record IsCheckOf (names : List (List ℕ)) (grammars : List Grammar) (graph : QGraph) (text : List ℕ) (status : Status) : Type 0 where
+pub record IsCheckOf (names : List (List ℕ)) (grammars : List Grammar) (graph : QGraph) (text : List ℕ)
+    (status : Status) : Type 0 where
   pub text_is : text ≡ deck_text names grammars graph
   pub status_is : status ≡ Done
 

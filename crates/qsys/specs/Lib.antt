@@ -1,11 +1,10 @@
 pub mod Texts
 pub mod Outcomes
 pub mod Pieces
-pub mod Ends
 pub mod Defined
 pub mod Words
-pub mod Options
 pub mod Answers
 pub mod Calls
 pub mod Statuses
 pub mod Cascading
+pub mod working

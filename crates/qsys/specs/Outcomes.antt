@@ -1,5 +1,5 @@
--- The outcome of a cascade: the text that is written for it, and how it ends. The chaining is Colmerauer's (1970), the text
--- this project's own.
+-- The outcome of a cascade: the text that is written for it, and how it ends. The chaining is Colmerauer's (1970), the
+-- text this project's own.
 use Rattle.std.specs.Prelude.{◌≡◌, ℕ, List, [], ◌∷◌, ◌++◌, map}
 use Rattle.qs_tree.specs.declared.cell.Label.{Label}
 use Rattle.qs_graph.specs.Graphs.{QGraph}
@@ -17,10 +17,12 @@ block limit names name over = limit_block names name limit
 abbrev pub blocks : ℕ → List (List ℕ) → List Grammar → List Left → List ℕ
 blocks limit names [] lefts = []
 blocks limit names (grammar ∷ grammars) [] = []
-blocks limit names (grammar ∷ grammars) (left ∷ lefts) = block limit names grammar.name left ++ blocks limit names grammars lefts
+blocks limit names (grammar ∷ grammars) (left ∷ lefts) =
+    block limit names grammar.name left ++ blocks limit names grammars lefts
 
 -- This text is written for the cascade of these grammars from the graph, and the cascade ends so.
-pub record IsOutcome (limit : ℕ) (names : List (List ℕ)) (graph : QGraph) (grammars : List Grammar) (text : List ℕ) (ending : Ending) : Type 0 where
+pub record IsOutcome (limit : ℕ) (names : List (List ℕ)) (graph : QGraph) (grammars : List Grammar) (text : List ℕ)
+    (ending : Ending) : Type 0 where
   pub lefts : List Left
   pub cascade : Cascade limit graph (map (λ grammar. grammar.rules) grammars) lefts ending
   pub text_is : text ≡ blocks limit names grammars lefts

@@ -1,5 +1,5 @@
--- The texts that the program writes beside decks and graphs. Their spelling is this project's own. A line ends with one line
--- feed.
+-- The texts that the program writes beside decks and graphs. Their spelling is this project's own. A line ends with one
+-- line feed.
 use Rattle.std.specs.Prelude.{ℕ, List, ◌++◌, codes, decimal}
 use Rattle.qs_tree.specs.declared.cell.Label.{Label}
 use Rattle.qs_tree.specs.Text.{name_of, label_text}
@@ -14,7 +14,8 @@ title_line names name = line (codes "# " ++ label_text (name_of names name))
 
 -- Behind a closure it has the number of the firings too: `# S 3`
 abbrev pub counted_line : List (List ℕ) → Label → ℕ → List ℕ
-counted_line names name firings = line (codes "# " ++ (label_text (name_of names name) ++ (codes " " ++ decimal firings)))
+counted_line names name firings =
+    line (codes "# " ++ (label_text (name_of names name) ++ (codes " " ++ decimal firings)))
 
 -- The block of a grammar that leaves a graph.
 abbrev pub graph_block : List (List ℕ) → Label → ℕ → QGraph → List ℕ
@@ -40,12 +41,14 @@ counts_text firings arcs = decimal firings ++ (codes " " ++ (decimal arcs ++ cod
 -- left: `-FAIT- 3 8 13 1.`
 abbrev pub summary_line : ℕ → ℕ → ℕ → ℕ → List ℕ
 summary_line size words firings arcs =
-    line (codes "-FAIT- " ++ (decimal size ++ (codes " " ++ (decimal words ++ (codes " " ++ counts_text firings arcs)))))
+    line (codes "-FAIT- "
+    ++ (decimal size ++ (codes " " ++ (decimal words ++ (codes " " ++ counts_text firings arcs)))))
 
 -- What is written for a text that is refused: `-REFUS- 2 3 BadCharacter.`
 abbrev pub refusal_line : Refusal → List ℕ
 refusal_line refusal =
-    line (codes "-REFUS- " ++ (decimal refusal.line ++ (codes " " ++ (decimal refusal.column ++ (codes " " ++ (cause_name refusal.cause ++ codes "."))))))
+    line (codes "-REFUS- " ++ (decimal refusal.line
+    ++ (codes " " ++ (decimal refusal.column ++ (codes " " ++ (cause_name refusal.cause ++ codes "."))))))
 
 -- What is written for words that give no job.
 abbrev pub usage_line : List ℕ

@@ -1,7 +1,9 @@
--- The words that follow the program's name, and the job that they give. They are read as clap reads the words of one simple
--- command: clap's own definitions say which faults it finds in words (`fault_of`) and what a command's arguments are where it
--- finds none (`matches_of`). What the command is, and what is made of its arguments, is this project's own.
-use Rattle.std.specs.Prelude.{◌≡◌, ℕ, ◌≤◌, pos, true, List, [], ◌∷◌, Option, None, Some, codes, if◌then◌else◌, option_and_then, option_map}
+-- The words that follow the program's name, and the job that they give. They are read as clap reads the words of one
+-- simple command: clap's own definitions say which faults it finds in words (`fault_of`) and what a command's arguments
+-- are where it finds none (`matches_of`). What the command is, and what is made of its arguments,
+-- is this project's own.
+use Rattle.std.specs.Prelude.{◌≡◌, ℕ, ◌≤◌, pos, true, List, [], ◌∷◌, Option, None, Some, codes, if◌then◌else◌}
+use Rattle.std.specs.Prelude.{option_and_then, option_map}
 use Rattle.std.specs.Option.{option_map_or}
 use Rattle.std.specs.Str.{bytes_eq}
 use Rattle.std.specs.Str.Parse.{digits_value, without_leading_plus}
@@ -30,7 +32,8 @@ pub record IsInRange (job : Job) : Type 0 where
 abbrev pub required_word : List ℕ → Rule
 required_word name = record (new_rule name) { required = true; action = Some Set }
 
--- An option with this name, which takes a number between these two, and has the last word's number where it isn't given.
+-- An option with this name, which takes a number between these two,
+-- and has the last word's number where it isn't given.
 abbrev pub number_option : List ℕ → ℕ → ℕ → List ℕ → Rule
 number_option name least most default = record (new_rule name) {
   long = Some name;
@@ -43,11 +46,12 @@ number_option name least most default = record (new_rule name) {
 abbrev pub without_program : App → App
 without_program = on_top (λ shape. record shape { no_binary_name = true })
 
--- The simple command: the command word, and the options `--limit` (from 1 to 100,000, else 10,000), `--workers` (from 1 to 8,
--- else 4) and `--size` (from 0 to 13, else 8).
+-- The simple command: the command word, and the options `--limit` (from 1 to 100,000, else 10,000), `--workers` (from 1
+-- to 8, else 4) and `--size` (from 0 to 13, else 8).
 unfoldable pub simple_command : App
 simple_command =
-    with_rule (with_rule (with_rule (with_rule (without_program (new_app (codes "qsys"))) (required_word (codes "command")))
+    with_rule
+    (with_rule (with_rule (with_rule (without_program (new_app (codes "qsys"))) (required_word (codes "command")))
     (number_option (codes "limit") 1 100000 (codes "10000"))) (number_option (codes "workers") 1 8 (codes "4")))
     (number_option (codes "size") 0 13 (codes "8"))
 

@@ -4,7 +4,7 @@ ghost use Rattle.std.specs.Prelude.{◌≡◌, ◌<◌, ◌++◌, IfOk, OnOk, le
 ghost use Rattle.qs_cascade.specs.Stages.{IsEndNamed};
 ghost use Rattle.qsys.specs.Texts.{title_line, counted_line, limit_line};
 ghost use Rattle.qsys.specs.Outcomes.{block};
-ghost use Rattle.qsys.specs.Ends.{left_of};
+ghost use Rattle.qsys.specs.working.Ends.{left_of};
 
 use qs_cascade::StageEnd;
 use qs_graphtext::write_graph;

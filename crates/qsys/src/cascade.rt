@@ -5,7 +5,8 @@ ghost use Rattle.qs_deck.specs.Decks.{grammar_of};
 ghost use Rattle.qs_deck.specs.Named.{AreSystemsNamed};
 ghost use Rattle.qsys.specs.Words.{IsLimit};
 ghost use Rattle.qsys.specs.Calls.{TellsWriteFaults};
-ghost use Rattle.qsys.specs.Cascading.{AreAccepted, CanGoOn, DeliversCascade};
+ghost use Rattle.qsys.specs.Cascading.{AreAccepted};
+ghost use Rattle.qsys.specs.working.Cascading.{CanGoOn, DeliversCascade};
 
 use crate::blocks::block;
 use crate::status::Status;
@@ -16,8 +17,9 @@ use qs_io::{Sink, write_all};
 use qs_tree::Names;
 use std::alloc::Global;
 
-/// Runs the grammars one after another, each on the graph that the one before it left, and writes the block of each, whole
-/// and at once, when it has ended. A grammar that leaves no arc, or that needs more firings than the limit, is the last one.
+/// Runs the grammars one after another, each on the graph that the one before it left, and writes the block of each,
+/// whole and at once, when it has ended. A grammar that leaves no arc, or that needs more firings than the limit,
+/// is the last one.
 ///
 /// `Done` and `Limit` come where all blocks were written; `WriteFault` only where the sink's count of faults rose,
 /// and `Memory` where memory was wanting; a proper prefix of the blocks was written then. With every answer but
@@ -34,7 +36,8 @@ pub fn cascade<K: Sink>(
     requires named { AreSystemsNamed (length names.now) systems.now }
     requires accepted { AreAccepted (map grammar_of systems.now) }
     requires can_go_on { CanGoOn names.now start (length systems.now) }
-    ensures delivers { DeliversCascade limit names.now start (map grammar_of systems.now) (K.written sink.old) (K.written sink.new) result }
+    ensures delivers { DeliversCascade limit names.now start (map grammar_of systems.now) (K.written sink.old)
+        (K.written sink.new) result }
     ensures writes { TellsWriteFaults (K.faults sink.old) (K.faults sink.new) result }
 {
     let mut graph = start;

@@ -14,7 +14,8 @@ use qs_deck::laws::one_answer;
 
 /// A cascade has one text and one ending.
 pub fn one_outcome()
-    ensures { (limit : ℕ) (names : List (List ℕ)) (graph : QGraph) (grammars : List Grammar) (t u : List ℕ) (e d : Ending)
+    ensures { (limit : ℕ) (names : List (List ℕ)) (graph : QGraph) (grammars : List Grammar) (t u : List ℕ)
+        (e d : Ending)
         → IsOutcome limit names graph grammars t e → IsOutcome limit names graph grammars u d → (t ≡ u) × (e ≡ d) }
 {
     one_cascade();

@@ -1,5 +1,5 @@
-//! Q-systems: reads grammars and a Q-graph from standard input, runs the grammars one after another on the graph, and writes
-//! what each leaves to standard output.
+//! Q-systems: reads grammars and a Q-graph from standard input, runs the grammars one after another on the graph, and
+//! writes what each leaves to standard output.
 #![tactic(auto)]
 
 ghost use Rattle.std.specs.Prelude.{◌≡◌, ◌↔◌, IfOk, drop};

@@ -9,7 +9,7 @@ ghost use Rattle.qsys.specs.Words.{IsLimit};
 ghost use Rattle.qsys.specs.Defined.{Reads};
 ghost use Rattle.qsys.specs.Answers.{EndsAsDefined, IsOfWholeText};
 ghost use Rattle.qsys.specs.Calls.{DoesJob, HasCause, TellsWriteFaults};
-ghost use Rattle.qsys.specs.Cascading.{IsAnswered, IsWritten};
+ghost use Rattle.qsys.specs.working.Cascading.{IsAnswered, IsWritten};
 
 use crate::cascade::cascade;
 use crate::job::{Command, Job};
@@ -23,7 +23,8 @@ use std::alloc::{AllocError, Global};
 
 /// The text of the deck.
 fn deck_text(alloc: Global, deck: &Deck) -> Result<Vec<u8>, AllocError>
-    ensures { IfOk result (λ text. text.items ≡ deck_text deck.now.names (map grammar_of deck.now.systems.items) deck.now.graph) }
+    ensures { IfOk result (λ text. text.items
+        ≡ deck_text deck.now.names (map grammar_of deck.now.systems.items) deck.now.graph) }
 {
     let mut text = Vec::new(alloc);
     write_deck(alloc, deck, &mut text)?;
@@ -155,8 +156,8 @@ pub fn run_still<S: Source, K: Sink>(
     requires limit { IsLimit job.now.limit }
     requires size { job.now.size ≤ 13 }
 
-    // Where the source tells its bytes, exactly what is defined for them is written; only too many bytes, a fault that is
-    // counted or want of memory stops it, at a prefix.
+    // Where the source tells its bytes, exactly what is defined for them is written; only too many bytes, a fault that
+    // is counted or want of memory stops it, at a prefix.
     ensures headline { (bytes : List ℕ) → S.left source.old ≡ Some bytes
         → EndsAsDefined job.now bytes (K.written sink.old) (K.written sink.new) result }
     // The same of the bytes that the reads of this call gave; with no fault and not too many bytes, only memory can be

@@ -5,7 +5,7 @@ ghost use Rattle.qs_deck.specs.MadeDecks.{made_grammar, made_graph};
 ghost use Rattle.qs_cascade.specs.Stages.{IsStageEnd};
 ghost use Rattle.qsys.specs.Words.{IsLimit};
 ghost use Rattle.qsys.specs.Texts.{counts_text, summary_line};
-ghost use Rattle.qsys.specs.Ends.{left_of, ending_of};
+ghost use Rattle.qsys.specs.working.Ends.{left_of, ending_of};
 ghost use Rattle.qsys.specs.Defined.{status_of, summary};
 ghost use Rattle.qsys.specs.Answers.{IsOfWholeText};
 

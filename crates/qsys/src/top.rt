@@ -27,20 +27,20 @@ pub fn write_usage<K: Sink>(sink: &mut K) -> Status
     }
 }
 
-/// Reads the words that follow the program's name, and does the job that they give, as `read_words` says. One worker does
-/// it, whatever the words say of workers. It always returns, and never waits.
+/// Reads the words that follow the program's name, and does the job that they give, as `read_words` says. One worker
+/// does it, whatever the words say of workers. It always returns, and never waits.
 ///
 /// For other words the usage line is written and nothing is read; the answer is `Usage` then, or `WriteFault` where the
-/// sink failed. Where there was no memory to read the words, the answer is `Memory`, and nothing is read or written. For
-/// the answers of a job see `run_still`.
+/// sink failed. Where there was no memory to read the words, the answer is `Memory`, and nothing is read or written.
+/// For the answers of a job see `run_still`.
 pub fn qsys<S: Source, K: Sink>(
     alloc: Global,
     words: &[String],
     source: &mut S,
     sink: &mut K,
 ) -> Status
-    // Where the source tells its bytes, exactly what is defined for them is written; only too many bytes, a fault that is
-    // counted or want of memory stops it, at a prefix.
+    // Where the source tells its bytes, exactly what is defined for them is written; only too many bytes, a fault that
+    // is counted or want of memory stops it, at a prefix.
     ensures headline { (job : Job) → IsJobOf (map string_bytes words.now) job
         → (bytes : List ℕ) → S.left source.old ≡ Some bytes
         → EndsAsDefined job bytes (K.written sink.old) (K.written sink.new) result }
@@ -49,8 +49,8 @@ pub fn qsys<S: Source, K: Sink>(
     ensures does_job { (job : Job) → IsJobOf (map string_bytes words.now) job
         → DoesJob S.Source K.Sink job source.old source.new sink.old sink.new result }
 
-    // Words that give no job are answered with the usage line, where there is memory to read them, and nothing is read for
-    // them.
+    // Words that give no job are answered with the usage line, where there is memory to read them, and nothing is read
+    // for them.
     ensures words { AnswersWords (map string_bytes words.now) (K.written sink.old) (K.written sink.new) result }
     ensures nothing_read { AreRefused (map string_bytes words.now) → source.new ≡ source.old }
 

@@ -3,8 +3,9 @@
 ghost use Rattle.std.specs.Prelude.{◌≡◌, ◌≤◌, ◌<◌, ◌^◌, ℕ, IfOk, IfSome, IsErrOf, false, map};
 ghost use Rattle.std.specs.String.{string_bytes};
 ghost use Rattle.clap.specs.Words.{app_of, found_of, rows_of, rule_of};
-ghost use Rattle.qsys.specs.Words.{AreRefused, IsInRange, IsJobOf, command_of, job_in, number_in, number_option, required_word, simple_command};
-ghost use Rattle.qsys.specs.Options.{HasNumber, HasNumbers, HasSomeNumber};
+ghost use Rattle.qsys.specs.Words.{AreRefused, IsInRange, IsJobOf, command_of, job_in, number_in, number_option};
+ghost use Rattle.qsys.specs.Words.{required_word, simple_command};
+ghost use Rattle.qsys.specs.working.Options.{HasNumber, HasNumbers, HasSomeNumber};
 
 use crate::job::{Command, Job};
 use clap::error::ErrorKind;
@@ -90,7 +91,8 @@ fn command_of(word: &str) -> Option<Command>
 fn number_in(matches: &ArgMatches<'_>, name: &str) -> u32
     requires { HasSomeNumber (found_of matches.now) name.now }
     ensures number { result ≡ number_in (rows_of (found_of matches.now)) name.now }
-    ensures range { (least most : ℕ) → most < 2 ^ 32 → HasNumber (found_of matches.now) name.now least most → (least ≤ result) × (result ≤ most) }
+    ensures range { (least most : ℕ) → most < 2 ^ 32 → HasNumber (found_of matches.now) name.now least most
+        → (least ≤ result) × (result ≤ most) }
 {
     matches.get_one(name).unwrap()
 }
@@ -110,10 +112,10 @@ fn job_in(matches: &ArgMatches<'_>) -> Option<Job>
     })
 }
 
-/// Reads the words, those behind the program's name: a command word that is known, with the options `--limit` (from 1 to
-/// 100,000, else 10,000), `--workers` (from 1 to 8, else 4) and `--size` (from 0 to 13, else 8) anywhere. `Usage` comes
-/// exactly where `clap` refuses the words, which it does for `--help` too, or the command word isn't known; `Memory` comes
-/// where memory was wanting, and says nothing of the words.
+/// Reads the words, those behind the program's name: a command word that is known, with the options `--limit` (from 1
+/// to 100,000, else 10,000), `--workers` (from 1 to 8, else 4) and `--size` (from 0 to 13, else 8) anywhere. `Usage`
+/// comes exactly where `clap` refuses the words, which it does for `--help` too, or the command word isn't known;
+/// `Memory` comes where memory was wanting, and says nothing of the words.
 pub fn read_words(alloc: Global, words: &[String]) -> Result<Job, WordsEnd>
     ensures job { IfOk result (λ job. IsJobOf (map string_bytes words.now) job) }
     ensures range { IfOk result IsInRange }

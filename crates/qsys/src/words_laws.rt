@@ -19,8 +19,10 @@ pub fn job_or_refused()
 /// What is defined for some words that are written out.
 pub fn words_written_out()
     ensures alone { IsJobOf (codes "run" ∷ []) (record { command = Run; limit = 10000; workers = 4; size = 8 }) }
-    ensures limited { IsJobOf (codes "run" ∷ codes "--limit" ∷ codes "5" ∷ []) (record { command = Run; limit = 5; workers = 4; size = 8 }) }
-    ensures in_front { IsJobOf (codes "--size=0" ∷ codes "--workers" ∷ codes "8" ∷ codes "run" ∷ []) (record { command = Run; limit = 10000; workers = 8; size = 0 }) }
+    ensures limited { IsJobOf (codes "run" ∷ codes "--limit" ∷ codes "5" ∷ [])
+        (record { command = Run; limit = 5; workers = 4; size = 8 }) }
+    ensures in_front { IsJobOf (codes "--size=0" ∷ codes "--workers" ∷ codes "8" ∷ codes "run" ∷ [])
+        (record { command = Run; limit = 10000; workers = 8; size = 0 }) }
     ensures least_workers { IsJobOf (codes "run" ∷ codes "--workers" ∷ codes "1" ∷ [])
         (record { command = Run; limit = 10000; workers = 1; size = 8 }) }
     ensures greatest_size { IsJobOf (codes "run" ∷ codes "--size" ∷ codes "13" ∷ [])

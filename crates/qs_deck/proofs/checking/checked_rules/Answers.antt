@@ -1,5 +1,5 @@
 use Rattle.qs_graphtext.proofs.GraphsOfChains.{err_is}
-use Rattle.qs_deck.specs.Checked.{IsFirstRefused}
+use Rattle.qs_deck.specs.working.Checked.{IsFirstRefused}
 use Rattle.qs_deck.proofs.CheckSteps.{checked_first, checked_next, refused_next}
 use Rattle.qs_deck.proofs.checking.checked_rules.Goals as goal
 

@@ -2,7 +2,7 @@ use Rattle.std.proofs.Common.{map}
 use Rattle.qs_graphtext.proofs.GraphsOfChains.{err_is}
 use Rattle.qs_deck.specs.WrittenDecks.{rules_of}
 use Rattle.qs_deck.specs.Decks.{grammar_of}
-use Rattle.qs_deck.specs.Checked.{IsFirstRefused}
+use Rattle.qs_deck.specs.working.Checked.{IsFirstRefused}
 use Rattle.qs_deck.proofs.CheckSteps.{systems_first, systems_next, can_system, refused_system}
 use Rattle.qs_deck.proofs.checking.checked_systems.Goals as goal
 

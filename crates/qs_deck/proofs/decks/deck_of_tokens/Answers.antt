@@ -2,7 +2,7 @@ use Rattle.std.proofs.Common.{length, sym, subst}
 use Rattle.qs_graph.specs.Graphs.{QGraph}
 use Rattle.qs_graphtext.specs.Texts.{AreArcsNamed}
 use Rattle.qs_deck.specs.Decks.{IsWritten}
-use Rattle.qs_deck.specs.Answers.{end_of_check, IsEndOf}
+use Rattle.qs_deck.specs.working.Answers.{end_of_check, IsEndOf}
 use Rattle.qs_deck.proofs.Meanings as meaning
 use Rattle.qs_deck.proofs.Tables.{hands_on}
 use Rattle.qs_deck.proofs.decks.deck_of_tokens.Goals as goal

@@ -1,7 +1,7 @@
 use Rattle.std.proofs.Common.{length, sym, ◌∙◌, subst, ap, arith}
 use Rattle.qs_lex.specs.declared.refusal.Cause.TheVariants.{Syntax}
 use Rattle.qs_deck.specs.Refusals.{byte_of, IsFault, syntax}
-use Rattle.qs_deck.specs.Syntax.{EndsAt}
+use Rattle.qs_deck.specs.working.Syntax.{EndsAt}
 use Rattle.qs_deck.proofs.Borders.{few_tokens}
 use Rattle.qs_deck.proofs.decks.written.Goals as goal
 

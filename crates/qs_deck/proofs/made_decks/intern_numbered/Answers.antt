@@ -1,5 +1,5 @@
 use Rattle.std.proofs.Common.{◌≡◌, ◌≤◌, length, arith}
-use Rattle.qs_deck.specs.MadeParts.{numbered}
+use Rattle.qs_deck.specs.working.MadeParts.{numbered}
 use Rattle.qs_deck.proofs.MadeLemmas.{interned_next, names_few}
 use Rattle.qs_deck.proofs.made_decks.intern_numbered.Goals as goal
 

@@ -1,6 +1,6 @@
 use Rattle.std.proofs.Common.{◌≡◌, ◌-◌, ◌++◌, map}
 use Rattle.std.specs.List.{range_with_len}
-use Rattle.qs_deck.specs.MadeParts.{numbered}
+use Rattle.qs_deck.specs.working.MadeParts.{numbered}
 use Rattle.qs_deck.proofs.made_decks.intern_numbered.Given as goal
 
 abbrev pub invariant-loop-number : goal.invariant-loop-number

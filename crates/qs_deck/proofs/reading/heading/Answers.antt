@@ -1,4 +1,4 @@
-use Rattle.qs_deck.specs.Readers.{EndsInHeading}
+use Rattle.qs_deck.specs.working.Readers.{EndsInHeading}
 use Rattle.qs_deck.proofs.Tables.{hands_on}
 use Rattle.qs_deck.proofs.Steps.{label_next, ends_at_word, ends_at_label, ends_at_dot}
 use Rattle.qs_deck.proofs.reading.heading.Goals as goal

@@ -1,5 +1,5 @@
 use Rattle.std.proofs.Common.{refl, drop, arith}
-use Rattle.qs_deck.specs.Syntax.{EndsAt}
+use Rattle.qs_deck.specs.working.Syntax.{EndsAt}
 use Rattle.qs_deck.proofs.Tables.{hands_on}
 use Rattle.qs_deck.proofs.Places.{ends_at, chains_end, ends_behind_graph, cannot_go_on, whole_deck}
 use Rattle.qs_deck.proofs.Naming.{all_names}

@@ -1,7 +1,7 @@
 use Rattle.std.proofs.Common.{◌∷◌, refl}
 use Rattle.qs_lex.specs.Grammar.{part}
 use Rattle.qs_deck.specs.Grammar.{system}
-use Rattle.qs_deck.specs.Readers.{EndsIn, behind_system}
+use Rattle.qs_deck.specs.working.Readers.{EndsIn, behind_system}
 use Rattle.qs_deck.proofs.Tables.{hands_on}
 use Rattle.qs_deck.proofs.Steps.{name_of_text, heading_within, rules_end}
 use Rattle.qs_deck.proofs.Systems.{one_system}

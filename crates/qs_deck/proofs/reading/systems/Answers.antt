@@ -2,7 +2,7 @@ use Rattle.std.proofs.Common.{◌∷◌, [], subst}
 use Rattle.std.proofs.lemmas.List.{take_rest}
 use Rattle.qs_lex.specs.Grammar.{part}
 use Rattle.qs_deck.specs.Grammar.{deck}
-use Rattle.qs_deck.specs.Readers.{EndsIn, NextIsWord}
+use Rattle.qs_deck.specs.working.Readers.{EndsIn, NextIsWord}
 use Rattle.qs_deck.proofs.Tables.{hands_on}
 use Rattle.qs_deck.proofs.Systems.{first_read, next_read, first_ends, next_ends}
 use Rattle.qs_deck.proofs.reading.systems.Goals as goal

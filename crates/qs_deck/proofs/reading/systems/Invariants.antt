@@ -1,5 +1,5 @@
 use Rattle.std.proofs.Common.{◌-◌, length}
-use Rattle.qs_deck.specs.Readers.{AreSystemsRead}
+use Rattle.qs_deck.specs.working.Readers.{AreSystemsRead}
 use Rattle.qs_deck.proofs.reading.systems.Given as goal
 
 abbrev pub invariant-loop-alloc : goal.invariant-loop-alloc

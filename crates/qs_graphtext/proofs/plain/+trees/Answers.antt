@@ -4,7 +4,7 @@ use Rattle.qs_tree.specs.Trees.{no_tree, first_tree}
 use Rattle.qs_tree.specs.working.Trees.{join}
 use Rattle.qs_ruletext.proofs.Naming.{sign_names}
 use Rattle.qs_graphtext.specs.Grammar.{plain}
-use Rattle.qs_graphtext.specs.Readers.{Ends, plains_with, in_parentheses}
+use Rattle.qs_graphtext.specs.working.Readers.{Ends, plains_with, in_parentheses}
 use Rattle.qs_graphtext.proofs.Tables.{hands_on, next_length}
 use Rattle.qs_graphtext.proofs.Repeating.{repeats_first, repeats_more, repeats_done, ends_in_next, behind_sign}
 use Rattle.qs_graphtext.proofs.Cells.{first_cells, more_cells, root_cells}

@@ -6,7 +6,7 @@ use Rattle.qs_tree.specs.working.Trees.{join}
 use Rattle.qs_tree.specs.Cells.{cells_of}
 use Rattle.qs_graphtext.specs.Grammar.{plain}
 use Rattle.qs_graphtext.specs.Reading.{ReadsPlains, ReadsMorePlains}
-use Rattle.qs_graphtext.specs.Readers.{plains_with}
+use Rattle.qs_graphtext.specs.working.Readers.{plains_with}
 use Rattle.qs_graphtext.proofs.Repeating.{Repeats}
 use Rattle.qs_graphtext.proofs.plain.+trees.Given as goal
 

@@ -1,7 +1,7 @@
 use Rattle.std.proofs.Common.{[], ◌∷◌}
 use Rattle.qs_lex.specs.Grammar.{opening, part}
 use Rattle.qs_graphtext.specs.Grammar.{plain}
-use Rattle.qs_graphtext.specs.Readers.{Ends}
+use Rattle.qs_graphtext.specs.working.Readers.{Ends}
 use Rattle.qs_graphtext.proofs.Tables.{hands_on}
 use Rattle.qs_graphtext.proofs.PlainSteps.{ends_at_plain}
 use Rattle.qs_graphtext.proofs.ChainSteps.{read_rooted}

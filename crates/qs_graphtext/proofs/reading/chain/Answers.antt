@@ -1,7 +1,7 @@
 use Rattle.std.proofs.Common.{[], ◌∷◌}
 use Rattle.qs_lex.specs.Grammar.{part}
 use Rattle.qs_graphtext.specs.Grammar.{chain}
-use Rattle.qs_graphtext.specs.Readers.{Ends}
+use Rattle.qs_graphtext.specs.working.Readers.{Ends}
 use Rattle.qs_graphtext.proofs.Tables.{hands_on}
 use Rattle.qs_graphtext.proofs.ChainSteps.{next_mark, ends_at_chain, ends_in_trees, ends_at_mark, ends_at_stop, read_chain}
 use Rattle.qs_graphtext.proofs.reading.chain.Goals as goal

@@ -2,7 +2,7 @@ use Rattle.std.proofs.Common.{refl, [], ◌∷◌, arith}
 use Rattle.qs_lex.specs.Grammar.{a_node_mark, part}
 use Rattle.qs_ruletext.proofs.Naming.{no_names}
 use Rattle.qs_graphtext.specs.Grammar.{chain}
-use Rattle.qs_graphtext.specs.Readers.{Ends}
+use Rattle.qs_graphtext.specs.working.Readers.{Ends}
 use Rattle.qs_graphtext.proofs.Tables.{hands_on}
 use Rattle.qs_graphtext.proofs.Repeating.{repeats_first, repeats_more, repeats_done, ends_in_next}
 use Rattle.qs_graphtext.proofs.ChainSteps.{Chains, at_mark, one_chain, more_chains, all_chains}

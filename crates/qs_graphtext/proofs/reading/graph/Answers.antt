@@ -1,7 +1,7 @@
 use Rattle.std.proofs.Common.{[], ◌∷◌}
 use Rattle.qs_lex.specs.Grammar.{part}
 use Rattle.qs_graphtext.specs.Grammar.{graph}
-use Rattle.qs_graphtext.specs.Readers.{Ends}
+use Rattle.qs_graphtext.specs.working.Readers.{Ends}
 use Rattle.qs_graphtext.proofs.Tables.{hands_on}
 use Rattle.qs_graphtext.proofs.ChainSteps.{ends_at_graph, ends_in_chains, ends_at_fin, read_graph}
 use Rattle.qs_graphtext.proofs.reading.graph.Goals as goal

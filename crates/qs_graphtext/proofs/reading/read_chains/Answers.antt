@@ -1,9 +1,9 @@
 use Rattle.std.proofs.Common.{sym, subst, drop}
 use Rattle.std.proofs.lemmas.List.{take_rest}
-use Rattle.qs_ruletext.specs.Names.{NamesGrowUpTo}
+use Rattle.qs_reader.specs.working.Names.{NamesGrowUpTo}
 use Rattle.qs_ruletext.proofs.Naming.{names_between}
 use Rattle.qs_graphtext.specs.Reading.{ReadsGraph}
-use Rattle.qs_graphtext.specs.Readers.{Readable}
+use Rattle.qs_graphtext.specs.working.Readers.{Readable}
 use Rattle.qs_graphtext.proofs.Places.{readable, rest_of, stops_at, left_within, cannot_go_on, graph_named}
 use Rattle.qs_graphtext.proofs.Whole.{graph_whole}
 use Rattle.qs_graphtext.proofs.GraphEnd.{not_both_ends}

@@ -2,7 +2,7 @@ use Rattle.std.proofs.Common.{refl, [], ◌∷◌, arith}
 use Rattle.qs_lex.specs.Grammar.{opening, plus, one, part, ◌·◌}
 use Rattle.qs_ruletext.proofs.Naming.{sign_names}
 use Rattle.qs_graphtext.specs.Grammar.{plain}
-use Rattle.qs_graphtext.specs.Readers.{Ends, plains_with}
+use Rattle.qs_graphtext.specs.working.Readers.{Ends, plains_with}
 use Rattle.qs_graphtext.proofs.Tables.{hands_on, next_length}
 use Rattle.qs_graphtext.proofs.Repeating.{repeats_first, repeats_more, repeats_done, ends_in_next, behind_sign}
 use Rattle.qs_graphtext.proofs.ChainSteps.{one_tree, one_more, all_trees}

@@ -4,7 +4,7 @@ use Rattle.qs_lex.specs.Grammar.{opening, plus, one, part, ◌·◌}
 use Rattle.qs_tree.specs.Trees.{Tree}
 use Rattle.qs_graphtext.specs.Grammar.{plain}
 use Rattle.qs_graphtext.specs.Reading.{ReadsTrees, ReadsMoreTrees}
-use Rattle.qs_graphtext.specs.Readers.{plains_with}
+use Rattle.qs_graphtext.specs.working.Readers.{plains_with}
 use Rattle.qs_graphtext.proofs.Repeating.{Repeats}
 use Rattle.qs_graphtext.proofs.reading.trees.Given as goal
 

@@ -6,7 +6,7 @@ use Rattle.qs_pattern.specs.working.Conditions.{conditions}
 use Rattle.qs_reader.proofs.Steps.{hands_on, token_read, then_read, part_read, part_ends, first_ends}
 use Rattle.qs_reader.proofs.Lists.{first_read, next_read, no_more_read, next_ends}
 use Rattle.qs_ruletext.specs.Grammar.{cond, conj, neg, prim}
-use Rattle.qs_ruletext.specs.Readers.{Ends}
+use Rattle.qs_ruletext.specs.working.Readers.{Ends}
 use Rattle.qs_ruletext.proofs.ConditionSteps.{read_group, ends_in_group, ends_unclosed_group, read_comparison, ends_in_comparison, read_negated, ends_in_negated, read_not_negated, ends_in_prim, conj_first, conj_next, conj_last, cond_first, cond_next, cond_last}
 use Rattle.qs_ruletext.proofs.conditions.+conditions.Goals as goal
 

@@ -5,7 +5,7 @@ use Rattle.qs_pattern.specs.Conditions.{condition_of}
 use Rattle.qs_pattern.specs.working.Conditions.{conditions}
 use Rattle.qs_reader.specs.Readers.{rest_of}
 use Rattle.qs_ruletext.specs.Grammar.{cond, conj, neg, line}
-use Rattle.qs_ruletext.specs.Readers.{IsReadSoFar}
+use Rattle.qs_ruletext.specs.working.Readers.{IsReadSoFar}
 use Rattle.qs_ruletext.proofs.ConditionSteps.{CompletesCond, CompletesConj}
 use Rattle.qs_ruletext.proofs.conditions.+conditions.Given as goal
 

@@ -1,6 +1,6 @@
 use Rattle.std.proofs.Common.{refl}
 use Rattle.qs_reader.proofs.Steps.{hands_on}
-use Rattle.qs_ruletext.specs.Readers.{Ends, a_comparison}
+use Rattle.qs_ruletext.specs.working.Readers.{Ends, a_comparison}
 use Rattle.qs_ruletext.proofs.ConditionSteps.{ends_in_first_list, ends_at_relation, ends_in_second_within, ends_in_second_outside, read_within, read_outside}
 use Rattle.qs_ruletext.proofs.conditions.comparison.Goals as goal
 

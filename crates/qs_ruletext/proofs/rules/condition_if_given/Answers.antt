@@ -1,6 +1,6 @@
 use Rattle.std.proofs.Common.{refl}
 use Rattle.qs_reader.proofs.Steps.{hands_on}
-use Rattle.qs_ruletext.specs.Readers.{Ends, condition_if_any}
+use Rattle.qs_ruletext.specs.working.Readers.{Ends, condition_if_any}
 use Rattle.qs_ruletext.proofs.RuleSteps.{read_no_cond, read_some_cond, ends_in_cond}
 use Rattle.qs_ruletext.proofs.rules.condition_if_given.Goals as goal
 

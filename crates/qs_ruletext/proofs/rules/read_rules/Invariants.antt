@@ -2,7 +2,7 @@ use Rattle.std.proofs.Common.{length}
 use Rattle.qs_lex.specs.Grammar.{part, repeated}
 use Rattle.qs_reader.specs.Readers.{rest_of}
 use Rattle.qs_ruletext.specs.Grammar.{rule}
-use Rattle.qs_ruletext.specs.Readers.{IsReadSoFar}
+use Rattle.qs_ruletext.specs.working.Readers.{IsReadSoFar}
 use Rattle.qs_ruletext.proofs.RuleSteps.{CompletesRules}
 use Rattle.qs_ruletext.proofs.rules.read_rules.Given as goal
 

@@ -4,7 +4,7 @@ use Rattle.qs_reader.specs.Readers.{between}
 use Rattle.qs_reader.proofs.Steps.{hands_on}
 use Rattle.qs_ruletext.specs.Grammar.{rule}
 use Rattle.qs_ruletext.specs.Rules.{cell_bytes}
-use Rattle.qs_ruletext.specs.Readers.{Ends}
+use Rattle.qs_ruletext.specs.working.Readers.{Ends}
 use Rattle.qs_ruletext.proofs.RuleSteps.{ends_in_left, ends_at_equals, ends_in_right, ends_in_given, ends_at_stop, read_rule}
 use Rattle.qs_ruletext.proofs.rules.rule.Goals as goal
 

@@ -6,7 +6,7 @@ use Rattle.qs_pattern.proofs.PatternLemmas.{pattern-Node}
 use Rattle.qs_reader.proofs.Steps.{hands_on, token_read, then_read, part_read, part_ends, first_ends}
 use Rattle.qs_reader.proofs.Lists.{first_read, next_read, no_more_read, next_ends}
 use Rattle.qs_ruletext.specs.Grammar.{tree, list}
-use Rattle.qs_ruletext.specs.Readers.{Ends, in_parentheses}
+use Rattle.qs_ruletext.specs.working.Readers.{Ends, in_parentheses}
 use Rattle.qs_ruletext.proofs.Growing.{patterns_push, list_first, list_next, list_last}
 use Rattle.qs_ruletext.proofs.SideSteps.{read_no_subtrees, read_nothing_inside, read_list_inside, ends_in_list, ends_unclosed, read_tree_variable, read_node, ends_in_head, ends_in_subtrees, read_forest_variable, read_item, ends_in_tree}
 use Rattle.qs_ruletext.proofs.sides.+trees.Goals as goal

@@ -3,7 +3,7 @@ use Rattle.qs_lex.specs.Grammar.{comma, one, part, ◌·◌}
 use Rattle.qs_pattern.specs.Patterns.{patterns}
 use Rattle.qs_reader.specs.Readers.{rest_of}
 use Rattle.qs_ruletext.specs.Grammar.{list, item, line}
-use Rattle.qs_ruletext.specs.Readers.{IsReadSoFar}
+use Rattle.qs_ruletext.specs.working.Readers.{IsReadSoFar}
 use Rattle.qs_ruletext.proofs.Growing.{CompletesList}
 use Rattle.qs_ruletext.proofs.sides.+trees.Given as goal
 

@@ -1,5 +1,5 @@
 use Rattle.std.proofs.Common.{arith}
-use Rattle.qs_ruletext.specs.Readers.{Ends, a_head}
+use Rattle.qs_ruletext.specs.working.Readers.{Ends, a_head}
 use Rattle.qs_reader.proofs.Steps.{hands_on, passed_length, stayed_length}
 use Rattle.qs_ruletext.proofs.SideSteps.{read_head_variable, read_head_label, ends_at_head}
 use Rattle.qs_ruletext.proofs.sides.head.Goals as goal

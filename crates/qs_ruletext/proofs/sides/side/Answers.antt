@@ -4,7 +4,7 @@ use Rattle.qs_pattern.specs.Patterns.{patterns}
 use Rattle.qs_reader.proofs.Steps.{hands_on, token_read, then_read, part_read, part_ends, first_ends}
 use Rattle.qs_reader.proofs.Lists.{first_read, next_read, no_more_read, next_ends}
 use Rattle.qs_ruletext.specs.Grammar.{side}
-use Rattle.qs_ruletext.specs.Readers.{Ends}
+use Rattle.qs_ruletext.specs.working.Readers.{Ends}
 use Rattle.qs_ruletext.proofs.Growing.{patterns_push, side_first, side_next, side_last}
 use Rattle.qs_ruletext.proofs.sides.side.Goals as goal
 

@@ -3,7 +3,7 @@ use Rattle.qs_lex.specs.Grammar.{plus, one, part, ◌·◌}
 use Rattle.qs_pattern.specs.Patterns.{patterns}
 use Rattle.qs_reader.specs.Readers.{rest_of}
 use Rattle.qs_ruletext.specs.Grammar.{side, tree, line}
-use Rattle.qs_ruletext.specs.Readers.{IsReadSoFar}
+use Rattle.qs_ruletext.specs.working.Readers.{IsReadSoFar}
 use Rattle.qs_ruletext.proofs.Growing.{CompletesSide}
 use Rattle.qs_ruletext.proofs.sides.side.Given as goal
 

@@ -1,6 +1,6 @@
 use Rattle.std.proofs.Common.{◌≡◌, length, map, drop}
 use Rattle.qs_deck.specs.Decks.{grammar_of}
-use Rattle.qsys.specs.Cascading.{CanGoOn, HasCome}
+use Rattle.qsys.specs.working.Cascading.{CanGoOn, HasCome}
 use Rattle.qsys.proofs.cascade.cascade.Given as goal
 
 abbrev pub invariant-loop-system : goal.invariant-loop-system

@@ -1,17 +1,18 @@
--- No public contract cites this: what the private functions of the reader promise. A reader is given what is left of the
--- tokens, and gives what is left behind the part that it read.
+-- No public contract cites this: what the private functions of the reader promise. A reader is given what is left of
+-- the tokens, and gives what is left behind the part that it read.
 use Rattle.std.specs.Prelude.{◌≡◌, ℕ, ◌+◌, ◌≤◌, Bool, List, [], ◌∷◌, ◌++◌, length}
 use Rattle.qs_lex.specs.declared.token.Token.{Token}
 use Rattle.qs_lex.specs.declared.token.Kind.TheVariants.{Node}
 use Rattle.qs_lex.specs.declared.token.Word.TheVariants.{Graphe}
 use Rattle.qs_lex.specs.Tokens.{IsTokenOf}
-use Rattle.qs_lex.specs.Grammar.{Sort, a_label, a_node_mark, the_word, opening, closing, comma, IsOf, Form, one, part, ◌·◌, optional, repeated}
+use Rattle.qs_lex.specs.Grammar.{Sort, a_label, a_node_mark, the_word, opening, closing, comma, IsOf, Form, one, part}
+use Rattle.qs_lex.specs.Grammar.{◌·◌, optional, repeated}
 use Rattle.qs_lex.specs.Expecting.{same_sort}
 use Rattle.qs_lex.specs.working.Expecting.{Refuse, Leads, Stops}
 use Rattle.qs_ruletext.specs.declared.cursor.Halt.{Halt}
 use Rattle.qs_ruletext.specs.declared.cursor.Halt.TheVariants.{Syntax, Memory}
 use Rattle.qs_ruletext.specs.Rules.{KeepsNames}
-use Rattle.qs_ruletext.specs.Names.{NamesGrowUpTo}
+use Rattle.qs_reader.specs.working.Names.{NamesGrowUpTo}
 use Rattle.qs_graphtext.specs.Grammar.{Part, graph, chain, plain, line}
 
 -- which sorts the parts may begin with
@@ -29,18 +30,21 @@ Readable text (t ∷ ts) = IsTokenOf text t × Readable text ts
 abbrev pub IsNextMark : List Token → ℕ → List Token → Type 0
 IsNextMark tokens number rest = (t : Token) × (tokens ≡ t ∷ rest) × (t.kind ≡ Node number)
 
--- whatever is expected behind these forms, if only it can't begin with one of these sorts: a reader that expects the forms,
--- one behind the other, passes these tokens up to the rest
+-- whatever is expected behind these forms, if only it can't begin with one of these sorts: a reader that expects the
+-- forms, one behind the other, passes these tokens up to the rest
 abbrev pub Passes : List (Form Part) → List Sort → List Token → List Token → Type 0
-Passes forms sorts tokens rest = (behind : List (Form Part)) → Refuse table behind sorts → Leads line (forms ++ behind) tokens behind rest
+Passes forms sorts tokens rest =
+    (behind : List (Form Part)) → Refuse table behind sorts → Leads line (forms ++ behind) tokens behind rest
 
 -- it stops so
 abbrev pub Ends : List (Form Part) → List Sort → List Token → Halt → Type 0
-Ends forms sorts tokens (Syntax left) = (behind : List (Form Part)) → Refuse table behind sorts → Stops line (forms ++ behind) tokens left
+Ends forms sorts tokens (Syntax left) =
+    (behind : List (Form Part)) → Refuse table behind sorts → Stops line (forms ++ behind) tokens left
 Ends forms sorts tokens Memory = Unit {0}
 
 -- what a reader leaves: what it read, in these names and in all that keep them, and what is left for the next one
-pub record IsRead (forms : List (Form Part)) (sorts : List Sort) (Reads : List (List ℕ) → Type 0) (text : List ℕ) (tokens rest : List Token) (old new : List (List ℕ)) : Type 0 where
+pub record IsRead (forms : List (Form Part)) (sorts : List Sort) (Reads : List (List ℕ) → Type 0) (text : List ℕ)
+    (tokens rest : List Token) (old new : List (List ℕ)) : Type 0 where
   pub reads : (later : List (List ℕ)) → KeepsNames new later → Reads later
   pub passes : Passes forms sorts tokens rest
   pub readable : Readable text rest

@@ -1,5 +1,5 @@
--- No public contract cites this: what the private functions of the reader promise. A reader is given all tokens and the place at
--- which its part begins, and gives the place behind it.
+-- No public contract cites this: what the private functions of the reader promise. A reader is given all tokens and the
+-- place at which its part begins, and gives the place behind it.
 use Rattle.std.specs.Prelude.{◌≡◌, ℕ, ◌+◌, ◌-◌, ◌<◌, ◌≤◌, Bool, List, [], ◌∷◌, length, drop}
 use Rattle.qs_lex.specs.declared.token.Token.{Token}
 use Rattle.qs_lex.specs.declared.token.Word.TheVariants.{Systeme}
@@ -13,10 +13,10 @@ use Rattle.qs_reader.specs.declared.text_end.TextEnd.{TextEnd}
 use Rattle.qs_reader.specs.declared.text_end.TextEnd.TheVariants as text_end
 use Rattle.qs_ruletext.specs.Rules.{KeepsNames, NoRuleAt, between}
 use Rattle.qs_ruletext.specs.Names.{NamesGrow}
-use Rattle.qs_ruletext.specs.Cursors as rule_readers
+use Rattle.qs_ruletext.specs.working.Readers as rule_readers
 use Rattle.qs_ruletext.specs.Cursors.{IsNext}
 use Rattle.qs_graphtext.specs.Grammar as graphs
-use Rattle.qs_graphtext.specs.Readers as graph_readers
+use Rattle.qs_graphtext.specs.working.Readers as graph_readers
 use Rattle.qs_deck.specs.WrittenDecks.{WrittenSystem}
 use Rattle.qs_deck.specs.Grammar.{Part, deck, system, of_rules, of_graphs, line}
 use Rattle.qs_deck.specs.Reading.{ReadsSystem, ReadsSystems}
@@ -56,8 +56,10 @@ EndsIn forms tokens from (text_end.Syntax at) = StopsAt forms tokens from at
 EndsIn forms tokens from text_end.Memory = Unit {0}
 
 -- what the reader of a system leaves: what it read, in these names and in all that keep them, and no rule behind it
-pub record IsSystemRead (text : List ℕ) (tokens : List Token) (from : ℕ) (written : WrittenSystem) (to : ℕ) (old new : List (List ℕ)) : Type 0 where
-  pub reads : (later : List (List ℕ)) → KeepsNames new later → ReadsSystem later text (drop from tokens) written (drop to tokens)
+pub record IsSystemRead (text : List ℕ) (tokens : List Token) (from : ℕ) (written : WrittenSystem) (to : ℕ)
+    (old new : List (List ℕ)) : Type 0 where
+  pub reads : (later : List (List ℕ)) → KeepsNames new later
+      → ReadsSystem later text (drop from tokens) written (drop to tokens)
   pub ended : NoRuleAt tokens to
   pub names : NamesGrow text (between tokens from to) old new
   pub begun : from < to
@@ -69,7 +71,8 @@ abbrev pub NextIsWord : List Token → Type 0
 NextIsWord tokens = (rest : List Token) × IsNext (the_word Systeme) tokens rest
 
 -- the tokens up to this place are read as these systems, of which there is one at least, and more may follow
-pub record AreSystemsRead (text : List ℕ) (tokens : List Token) (systems : List WrittenSystem) (to : ℕ) (old new : List (List ℕ)) : Type 0 where
+pub record AreSystemsRead (text : List ℕ) (tokens : List Token) (systems : List WrittenSystem) (to : ℕ)
+    (old new : List (List ℕ)) : Type 0 where
   pub keeps : KeepsNames old new
   pub reads : (later : List (List ℕ)) → KeepsNames new later → ReadsSystems later text tokens systems (drop to tokens)
   pub some : 1 ≤ length systems

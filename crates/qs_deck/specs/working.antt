@@ -1,0 +1,8 @@
+-- Working definitions: private functions and proofs need them, and no public contract cites one.
+pub mod Syntax
+pub mod Named
+pub mod Readers
+pub mod Checked
+pub mod Answers
+pub mod Codes
+pub mod MadeParts
