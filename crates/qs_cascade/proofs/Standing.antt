@@ -4,7 +4,7 @@ use Rattle.std.proofs.lemmas.Bool.{cases_lt}
 use Rattle.qs_tree.specs.Lists.{◌∈◌, Ascends}
 use Rattle.qs_tree.specs.Trees.{Tree}
 use Rattle.qs_graph.specs.Graphs.{Arc}
-use Rattle.qs_graph.proofs.Numbers.{in_at}
+use Rattle.qs_tree.proofs.Members.{in_get_or}
 use Rattle.qs_firing.specs.Adding.{least_arc}
 use Rattle.qs_firing.proofs.Merging.{arc, least_is, is_least}
 use Rattle.qs_cascade.specs.working.Leaving.{leaving}
@@ -41,7 +41,7 @@ module _ (arcs : List Arc) (a b : ℕ) (t : Tree) where
       → least_arc arcs a b t ≡ Some (get_or (leaving arcs a) i 0)
   first_stands i h others x at to tree =
       let k : ℕ = get_or (leaving arcs a) i 0 in
-      let (y, there, from) = left_by arcs a k (in_at (leaving arcs a) i h) in
+      let (y, there, from) = left_by arcs a k (in_get_or (leaving arcs a) i 0 h) in
       let same : y ≡ x = (let p = sym there ∙ at in cc) in
       let start : x.from ≡ a = ap (λ (z : Arc). z.from) (sym same) ∙ from in
       let is : x ≡ arc a b t = λ j. record { from = start j; to = to j; tree = tree j } in

@@ -4,7 +4,7 @@ use Rattle.std.proofs.lemmas.List.{take_all}
 use Rattle.qs_tree.specs.Lists.{◌∈◌}
 use Rattle.qs_tree.specs.Trees.{Tree}
 use Rattle.qs_tree.specs.Cells.{tree_of}
-use Rattle.qs_graph.proofs.Numbers.{in_at}
+use Rattle.qs_tree.proofs.Members.{in_get_or}
 use Rattle.qs_cascade.specs.working.Leaving.{leaving}
 use Rattle.qs_cascade.proofs.Findings.{true_is_not_false}
 use Rattle.qs_cascade.proofs.Following.{left_by}
@@ -16,7 +16,7 @@ pub edge-requires : goal.edge-requires
 edge-requires c =
     let ks = c.leaving-arc-items.result.now in
     let k : ℕ = get_or ks c.loop-arc.arc-index 0 in
-    let here : k ∈ ks = in_at ks c.loop-arc.arc-index c.loop-arc-test.true in
+    let here : k ∈ ks = in_get_or ks c.loop-arc.arc-index 0 c.loop-arc-test.true in
     let (arc, at, from) = left_by c.args.self.now.arcs c.args.from k (subst (λ (js : List ℕ). k ∈ js) c.leaving-arc-items.ensures here) in
     slice_get_within c.args.self.now.arcs k arc at
 
