@@ -82,28 +82,25 @@ fn has_arcs(graph: &Graph, arcs: &[(u32, Label, u32)]) -> bool {
     graph.edges().len() == arcs.len()
 }
 
-/// Whether the rules end so on the graph of this text, with this limit: after so many firings with these arcs left.
-fn leave<R: Abort>(
-    rt: &R,
-    alloc: Global,
-    rules: &[Rule],
-    text: &str,
-    limit: u32,
-    firings: u32,
-    arcs: &[(u32, Label, u32)],
-) -> bool
+/// How the rules end on the graph of this text, with this limit.
+fn end_of<R: Abort>(rt: &R, alloc: Global, rules: &[Rule], text: &str, limit: u32) -> StageEnd
     requires { length rules.now < 10 }
 {
     let deck = read_deck(alloc, text.as_bytes()).expect(rt, "a deck");
     let start = &deck.graph;
     assert!(rt; 0 < limit && limit < 10 && start.edges().len() < 10 && start.nodes() < 10);
-    match stage_alone(alloc, rules, start, limit).expect(rt, "an end") {
+    stage_alone(alloc, rules, start, limit).expect(rt, "an end")
+}
+
+/// Whether after so many firings these arcs are left.
+fn leaves(end: &StageEnd, firings: u32, arcs: &[(u32, Label, u32)]) -> bool {
+    match end {
         StageEnd::Left {
             graph,
             firings: done,
-        } => done == firings && has_arcs(&graph, arcs),
-        StageEnd::Empty { firings: done } => done == firings && arcs.is_empty(),
-        StageEnd::Over => firings > limit,
+        } => *done == firings && has_arcs(graph, arcs),
+        StageEnd::Empty { firings: done } => *done == firings && arcs.is_empty(),
+        StageEnd::Over => false,
     }
 }
 
@@ -113,7 +110,8 @@ const ONE: &str = "-SYSTEME- S. -GRAPHE- -1- A -2-. -FIN-";
 #[test]
 fn a_firing_that_meets_its_own_arc_leaves_nothing(rt: HostRuntime) {
     let rule = beside(rt.alloc(), A, A).expect(&rt, "a rule");
-    assert!(rt; leave(&rt, rt.alloc(), &[rule], ONE, 5, 1, &[]));
+    let end = end_of(&rt, rt.alloc(), &[rule], ONE, 5);
+    assert!(rt; leaves(&end, 1, &[]));
 }
 
 #[test]
@@ -122,7 +120,8 @@ fn two_equal_rules_leave_one_arc(rt: HostRuntime) {
     let first = beside(alloc, A, B).expect(&rt, "a rule");
     let second = beside(alloc, A, B).expect(&rt, "a rule more");
     let rules = both(alloc, first, second).expect(&rt, "both");
-    assert!(rt; leave(&rt, alloc, &rules, ONE, 5, 2, &[(1, B, 2)]));
+    let end = end_of(&rt, alloc, &rules, ONE, 5);
+    assert!(rt; leaves(&end, 2, &[(1, B, 2)]));
 }
 
 #[test]
@@ -131,15 +130,17 @@ fn two_equal_rules_with_two_trees_leave_both_paths(rt: HostRuntime) {
     let first = two_beside(alloc, A, B, C).expect(&rt, "a rule");
     let second = two_beside(alloc, A, B, C).expect(&rt, "a rule more");
     let rules = both(alloc, first, second).expect(&rt, "both");
+    let end = end_of(&rt, alloc, &rules, ONE, 5);
     let arcs = [(1, B, 3), (3, C, 2), (1, B, 4), (4, C, 2)];
-    assert!(rt; leave(&rt, alloc, &rules, ONE, 5, 2, &arcs));
+    assert!(rt; leaves(&end, 2, &arcs));
 }
 
 #[test]
 fn equal_arcs_of_the_input_both_stay(rt: HostRuntime) {
     let rule = beside(rt.alloc(), B, A).expect(&rt, "a rule");
     let text = "-SYSTEME- S. -GRAPHE- -1- A -2-. -1- A -2-. -1- B -2-. -FIN-";
-    assert!(rt; leave(&rt, rt.alloc(), &[rule], text, 5, 1, &[(1, A, 2), (1, A, 2)]));
+    let end = end_of(&rt, rt.alloc(), &[rule], text, 5);
+    assert!(rt; leaves(&end, 1, &[(1, A, 2), (1, A, 2)]));
 }
 
 #[test]
@@ -148,8 +149,10 @@ fn two_rules_that_undo_each_other_leave_nothing_and_need_two_firings(rt: HostRun
     let first = beside(alloc, A, B).expect(&rt, "a rule");
     let second = beside(alloc, B, A).expect(&rt, "a rule more");
     let rules = both(alloc, first, second).expect(&rt, "both");
-    assert!(rt; leave(&rt, alloc, &rules, ONE, 2, 2, &[]));
-    assert!(rt; leave(&rt, alloc, &rules, ONE, 1, 2, &[]));
+    let end = end_of(&rt, alloc, &rules, ONE, 2);
+    assert!(rt; leaves(&end, 2, &[]));
+    let end = end_of(&rt, alloc, &rules, ONE, 1);
+    assert!(rt; matches!(end, StageEnd::Over));
 }
 
 #[test]
@@ -159,5 +162,6 @@ fn a_firing_meets_an_arc_of_its_own_round(rt: HostRuntime) {
     let second = beside(alloc, B, C).expect(&rt, "a rule more");
     let rules = both(alloc, first, second).expect(&rt, "both");
     let text = "-SYSTEME- S. -GRAPHE- -1- A -2-. -1- B -2-. -FIN-";
-    assert!(rt; leave(&rt, alloc, &rules, text, 5, 2, &[(1, C, 2)]));
+    let end = end_of(&rt, alloc, &rules, text, 5);
+    assert!(rt; leaves(&end, 2, &[(1, C, 2)]));
 }
