@@ -38,8 +38,12 @@ module _ (f : ℕ → ℕ) where
         let same : met (map (renamed_rule f) R) (renamed_graph f S.graph) (renamed_firing f x) ≡ met R S.graph x = met_renamed f g undone R S.graph x builds in
         let many : length (map (renamed_arc f) S.graph.arcs) ≡ length S.graph.arcs = length-map S.graph.arcs (renamed_arc f) in
         let this : Done = record { firing = x; first = first_arc R S.graph x; round = n; met = meets R S.graph x } in
-        let done : map (renamed_done f) S.done ++ record { firing = renamed_firing f x; first = first_arc (map (renamed_rule f) R) (renamed_graph f S.graph) (renamed_firing f x);
-          round = n; met = meets (map (renamed_rule f) R) (renamed_graph f S.graph) (renamed_firing f x) } ∷ []
+        let done : map (renamed_done f) S.done ++ record {
+          firing = renamed_firing f x;
+          first = first_arc (map (renamed_rule f) R) (renamed_graph f S.graph) (renamed_firing f x);
+          round = n;
+          met = meets (map (renamed_rule f) R) (renamed_graph f S.graph) (renamed_firing f x);
+        } ∷ []
         ≡ map (renamed_done f) (S.done ++ this ∷ []) =
         (λ i. map (renamed_done f) S.done ++ record { firing = renamed_firing f x; first = unwrap_or (same i) (many i); round = n; met = is_some (same i) } ∷ [])
         ∙ sym (map-append (renamed_done f) S.done (this ∷ [])) in
