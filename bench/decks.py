@@ -17,6 +17,7 @@ decks are run. The kinds of decks to close, with n for a number:
     lexicon  the same n rules on a chain of 25 words
     star     I* + I* == C on a node with n arcs into it and n out of it, of which no two are equal
     cascade  16 grammars behind each other, each of which rewrites each of n small trees: 16 n firings
+    phrases  the same on n trees with twelve trees below their roots
 
 Each is run by `run --limit 100000`; how many firings there were and how many arcs are left is compared with what is known by
 counting. Texts of equal rules, and of rules of which each has a label of its own, go through `check`, and long graphs through
@@ -150,15 +151,20 @@ def star(n):
     return deck(["I* + I* == C."], ["-1- A%d -2-.\n-2- B%d -3-." % (i, i) for i in range(n)]), 0, 2 * n
 
 
-def cascade(n, grammars=16):
-    systems = "".join("-SYSTEME- M.\nA%d(I*) == A%d(I*).\n" % (k, k + 1) for k in range(grammars))
-    return systems + "-GRAPHE-\n-1- %s -2-.\n-FIN-\n" % " + ".join(["A0(W)"] * n), n, n
+def cascade(n, variable="I*", below="W", grammars=16):
+    systems = "".join("-SYSTEME- M.\nA%d(%s) == A%d(%s).\n" % (k, variable, k + 1, variable) for k in range(grammars))
+    return systems + "-GRAPHE-\n-1- %s -2-.\n-FIN-\n" % " + ".join(["A0(%s)" % below] * n), n, n
+
+
+def phrases(n):
+    return cascade(n, "U*", ",".join("W%d" % i for i in range(1, 13)))
 
 
 CLOSED = (
     (made, (10, 11, 12, 13)), (amb, (9, 10, 11)), (eq, (9, 10, 11)), (split, (500, 1000, 2000)), (two, (12500, 25000, 50000)),
     (left, (1000, 2000, 4000, 8000)), (words, (1250, 2500, 5000, 10000)), (lexicon, (12500, 25000, 50000)),
-    (star, (500, 1000, 2000)), (cascade, (15625, 31250, 62500)))
+    (star, (500, 1000, 2000)), (cascade, (15625, 31250, 62500)),
+    (phrases, (5000, 10000, 20000)))
 
 
 def closures(timers, kinds):
