@@ -227,7 +227,9 @@ def main():
     asked.add_argument("--beside", nargs="+", default=[], metavar="PROGRAM")
     asked = asked.parse_args()
     subprocess.run([os.path.join(TOP, "qsys"), "check"], input=chain([], ["A"]).encode(), stdout=subprocess.DEVNULL, check=True)
-    programs = [("qsys", PROGRAM)] + [(os.path.basename(it) if os.path.basename(it) != "qsys" else it, os.path.abspath(it)) for it in asked.beside]
+    # Another program of the same name is told by its path.
+    beside = [(it if os.path.basename(it) == "qsys" else os.path.basename(it), os.path.abspath(it)) for it in asked.beside]
+    programs = [("qsys", PROGRAM)] + beside
     orders, answers = server()
     timers = [Timer(name, program, asked.runs, orders, answers) for name, program in programs]
     closures(timers, asked.only.split(",") if asked.only else kinds)
