@@ -123,6 +123,7 @@ fn a_view_has_its_arcs_and_a_firing_fires_where_rule_path_and_values_agree(rt: H
 
 /// A view with the arcs of a graph, which is dropped.
 fn view_of_dropped<R: Abort>(rt: &R, alloc: Global, text: &str) -> View {
+    assert!(rt; text.len() <= 4_194_304);
     let deck = read_deck(alloc, text.as_bytes()).expect(rt, "a deck");
     let arcs = deck.graph.edges();
     assert!(rt; arcs.len() < 100);

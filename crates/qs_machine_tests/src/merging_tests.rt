@@ -86,6 +86,7 @@ fn has_arcs(graph: &Graph, arcs: &[(u32, Label, u32)]) -> bool {
 fn end_of<R: Abort>(rt: &R, alloc: Global, rules: &[Rule], text: &str, limit: u32) -> StageEnd
     requires { length rules.now < 10 }
 {
+    assert!(rt; text.len() <= 4_194_304);
     let deck = read_deck(alloc, text.as_bytes()).expect(rt, "a deck");
     let start = &deck.graph;
     assert!(rt; 0 < limit && limit < 10 && start.edges().len() < 10 && start.nodes() < 10);
