@@ -58,26 +58,26 @@ blames_label bytes =
     let n = prefix_len is_label bytes in
     blames_either BadVariable (eqb (get_or bytes n 0) 42) (variable_of (take n bytes) (drop (n + 1) bytes)) (Ok (Bare, n)) (blames_variable (take n bytes) (drop (n + 1) bytes)) tt
 
-blames_mark : (bytes : List ℕ) → Blames BadWord (mark_at bytes)
-blames_mark bytes =
+blames_mark : (v : ℕ) (bytes : List ℕ) → Blames BadWord (mark_at v bytes)
+blames_mark v bytes =
     let name = take_while is_capital_or_digit bytes in
-    blames_either BadWord (eqb (get_or bytes (length name) 0) 45) (named name (word_of name)) (Err BadWord) (blames_named name (word_of name)) refl
+    blames_either BadWord (eqb (get_or bytes (length name) 0) 45) (named name (word_of v name)) (Err BadWord) (blames_named name (word_of v name)) refl
 
 -- the tests on the first byte that choose the reader choose the cause
 both : (t : Bool) (c d : Cause) (x y : Found) → Blames c x → Blames d y → Blames (cond t c d) (cond t x y)
 both true c d x y a b = a
 both false c d x y a b = b
 
-scan_blames : (b : ℕ) (bs : List ℕ) → Blames (cause_at b) (scan (b ∷ bs))
-scan_blames b bs =
+scan_blames : (v b : ℕ) (bs : List ℕ) → Blames (cause_at b) (scan v (b ∷ bs))
+scan_blames v b bs =
     let equals : Found = cond (eqb (get_or bs 0 0) 61) (Ok (Equals, 2)) (Err BadCharacter) in
     let last : Found = cond (eqb b 61) equals (punctuation b) in
     let blames_last : Blames BadCharacter last =
     blames_either BadCharacter (eqb b 61) equals (punctuation b) (blames_either BadCharacter (eqb (get_or bs 0 0) 61) (Ok (Equals, 2)) (Err BadCharacter) tt refl) (blames_punctuation b) in
-    both (is_label b) BadVariable (cond (eqb b 34) OpenQuote (cond (eqb b 45) BadWord BadCharacter)) (label_at (b ∷ bs)) (cond (eqb b 34) (quoted_of (quote_len bs)) (cond (eqb b 45) (mark_at bs) last)) (blames_label (b ∷ bs))
-    (both (eqb b 34) OpenQuote (cond (eqb b 45) BadWord BadCharacter) (quoted_of (quote_len bs)) (cond (eqb b 45) (mark_at bs) last) (blames_quoted (quote_len bs))
-    (both (eqb b 45) BadWord BadCharacter (mark_at bs) last (blames_mark bs) blames_last))
+    both (is_label b) BadVariable (cond (eqb b 34) OpenQuote (cond (eqb b 45) BadWord BadCharacter)) (label_at (b ∷ bs)) (cond (eqb b 34) (quoted_of (quote_len bs)) (cond (eqb b 45) (mark_at v bs) last)) (blames_label (b ∷ bs))
+    (both (eqb b 34) OpenQuote (cond (eqb b 45) BadWord BadCharacter) (quoted_of (quote_len bs)) (cond (eqb b 45) (mark_at v bs) last) (blames_quoted (quote_len bs))
+    (both (eqb b 45) BadWord BadCharacter (mark_at v bs) last (blames_mark v bs) blames_last))
 
-pub cause_is : (bytes : List ℕ) (c : Cause) → 0 < length bytes → scan bytes ≡ Err c → c ≡ cause_at (slice_index bytes 0)
-cause_is [] c some e = absurd (omega arith)
-cause_is (b ∷ bs) c some e = let P : Found → Type 0 = Blames (cause_at b) in subst P e (scan_blames b bs)
+pub cause_is : (v : ℕ) (bytes : List ℕ) (c : Cause) → 0 < length bytes → scan v bytes ≡ Err c → c ≡ cause_at (slice_index bytes 0)
+cause_is v [] c some e = absurd (omega arith)
+cause_is v (b ∷ bs) c some e = let P : Found → Type 0 = Blames (cause_at b) in subst P e (scan_blames v b bs)

@@ -4,46 +4,13 @@ use Rattle.std.proofs.Common.{◌≡◌, ℕ, zero, suc, ◌<◌, ◌≤◌, ◌
 use Rattle.std.specs.Prelude.{◌⊎◌}
 use Rattle.std.proofs.lemmas.Bool.{false≢true}
 use Rattle.qs_lex.specs.declared.token.Token.{Token}
-use Rattle.qs_lex.specs.declared.token.Word.TheVariants.{Systeme, Graphe, Fin, Dans, Hors, Et, Ou, Non}
 use Rattle.qs_lex.specs.Grammar.{Sort, a_label, a_label_variable, a_tree_variable, a_forest_variable, a_node_mark, the_word, opening, closing, comma, plus, slash, equals, stop, sort_of, IsOf, Form, one, part, ◌·◌, ◌∣◌, optional, repeated, Grammar, IsWhole, whole_token, whole_part, whole_sequence, whole_this, whole_other, left_out, not_left_out, no_more, one_more}
 use Rattle.qs_lex.specs.Expecting.{number_of, same_sort, NextIsNo}
 use Rattle.qs_lex.specs.working.Expecting.{nullable, first, starts, may_end, IsPredictive, Leads, Stops}
 use Rattle.qs_lex.proofs.Expected.{Fronts}
 use Rattle.qs_lex.proofs.Going.{leads_on, leads_token, leads_part, leads_sequence, leads_this, leads_other, leads_without, leads_done, stops_here, stops_behind}
+use Rattle.qs_lex.proofs.Sorts.{same_is}
 use Rattle.qs_lex.proofs.Predictive.{IsPredicted, next_apart, next_neither, Refused, refused_first, refused_last, refused_this, refused_other, refused_member, refused_again, refused_part, leads_into, leads_round}
-
--- the sort of a number
-abbrev sort_at : ℕ → Sort
-sort_at n =
-    cond (n == 0) a_label (cond (n == 1) a_label_variable (cond (n == 2) a_tree_variable (cond (n == 3) a_forest_variable (cond (n == 4) a_node_mark
-    (cond (n == 5) opening (cond (n == 6) closing (cond (n == 7) comma (cond (n == 8) plus (cond (n == 9) slash (cond (n == 10) equals (cond (n == 11) stop
-    (cond (n == 12) (the_word Systeme) (cond (n == 13) (the_word Graphe) (cond (n == 14) (the_word Fin) (cond (n == 15) (the_word Dans)
-    (cond (n == 16) (the_word Hors) (cond (n == 17) (the_word Et) (cond (n == 18) (the_word Ou) (the_word Non)))))))))))))))))))
-
-at_number : (s : Sort) → sort_at (number_of s) ≡ s
-at_number a_label = refl
-at_number a_label_variable = refl
-at_number a_tree_variable = refl
-at_number a_forest_variable = refl
-at_number a_node_mark = refl
-at_number opening = refl
-at_number closing = refl
-at_number comma = refl
-at_number plus = refl
-at_number slash = refl
-at_number equals = refl
-at_number stop = refl
-at_number (the_word Systeme) = refl
-at_number (the_word Graphe) = refl
-at_number (the_word Fin) = refl
-at_number (the_word Dans) = refl
-at_number (the_word Hors) = refl
-at_number (the_word Et) = refl
-at_number (the_word Ou) = refl
-at_number (the_word Non) = refl
-
-same_is : (s k : Sort) → same_sort s k ≡ true → k ≡ s
-same_is s k e = sym (at_number k) ∙ ap sort_at (sym (eqb-true (number_of s) (number_of k) e)) ∙ at_number s
 
 -- a whole form leaves no more tokens than there were
 whole_shorter : {Part : Type 0} {line : Grammar Part} {f : Form Part} {ts rest : List Token} → IsWhole line f ts rest → length rest ≤ length ts

@@ -3,7 +3,7 @@ use Rattle.std.proofs.Common.{◌≡◌, ℕ, ◌+◌, ◌-◌, ◌<◌, List, [
 use Rattle.std.specs.Prelude.{IsCharBoundary, slice_index}
 use Rattle.std.proofs.lemmas.List.{get_or-drop, take_rest}
 use Rattle.std.proofs.lemmas.Str.{IsCharBoundary-start}
-use Rattle.qs_lex.specs.Tokens.{Reads, blank_len, next_place, StandsIn}
+use Rattle.qs_lex.specs.Tokens.{version_of, Reads, blank_len, next_place, StandsIn}
 use Rattle.qs_lex.specs.Refusals.{IsFaulty, IsFirstFault, cause_at}
 use Rattle.qs_lex.specs.working.Scan.{scan}
 use Rattle.qs_lex.specs.declared.token.Token.{Token}
@@ -27,10 +27,10 @@ start text bytes ts at utf8 same none at_is =
       reads = subst Q (sym none) place;
     }
 
-pub none_stands : (bytes : List ℕ) (at : ℕ) (cause : Cause) → at < length bytes → scan (drop at bytes) ≡ Err cause → IsFaulty bytes at × (cause ≡ cause_at (slice_index bytes at))
+pub none_stands : (bytes : List ℕ) (at : ℕ) (cause : Cause) → at < length bytes → scan (version_of bytes) (drop at bytes) ≡ Err cause → IsFaulty bytes at × (cause ≡ cause_at (slice_index bytes at))
 none_stands bytes at cause within none = (
   none_there bytes at cause within none,
-  cause_is (drop at bytes) cause (omega (arith, length-drop at bytes)) none ∙ ap cause_at (get_or-drop at bytes 0 0 ∙ ap (λ i. slice_index bytes i) (omega arith)),
+  cause_is (version_of bytes) (drop at bytes) cause (omega (arith, length-drop at bytes)) none ∙ ap cause_at (get_or-drop at bytes 0 0 ∙ ap (λ i. slice_index bytes i) (omega arith)),
 )
 
 pub step : (text bytes : List ℕ) (ts us : List Token) (at blank : ℕ) (t : Token) → IsUtf8 text → bytes ≡ text → (t.from ≡ at) × StandsIn bytes t

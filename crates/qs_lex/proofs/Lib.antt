@@ -4,6 +4,7 @@ pub mod Runs
 pub mod Numbers
 pub mod Choices
 pub mod Words
+pub mod Versions
 pub mod Scanned
 pub mod Causes
 pub mod Standing
@@ -20,6 +21,7 @@ pub mod Expected
 pub mod Going
 pub mod Predictive
 pub mod Renaming
+pub mod Sorts
 pub mod Predicting
 pub mod Stopping
 pub mod Fronts

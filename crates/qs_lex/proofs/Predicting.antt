@@ -1,10 +1,10 @@
 -- Whether a grammar is read with one token of sight, decided sort by sort.
 use Rattle.std.proofs.Common.{◌≡◌, Bool, true, false, ◌||◌, ◌&&◌, not, refl, sym}
 use Rattle.std.proofs.lemmas.Bool.{false≢true}
-use Rattle.qs_lex.specs.declared.token.Word.TheVariants.{Systeme, Graphe, Fin, Dans, Hors, Et, Ou, Non}
-use Rattle.qs_lex.specs.Grammar.{Sort, a_label, a_label_variable, a_tree_variable, a_forest_variable, a_node_mark, the_word, opening, closing, comma, plus, slash, equals, stop, Form, one, part, ◌·◌, ◌∣◌, optional, repeated, Grammar}
+use Rattle.qs_lex.specs.Grammar.{Sort, Form, one, part, ◌·◌, ◌∣◌, optional, repeated, Grammar}
 use Rattle.qs_lex.specs.working.Expecting.{nullable, first, goes_on, Apart, IsPredictive}
 use Rattle.qs_lex.proofs.Predictive.{IsPredicted}
+use Rattle.qs_lex.proofs.Sorts.{every, every_is}
 
 and_first : (a b : Bool) → (a && b) ≡ true → a ≡ true
 and_first true b e = refl
@@ -13,32 +13,6 @@ and_first false b e = e
 and_second : (a b : Bool) → (a && b) ≡ true → b ≡ true
 and_second true b e = e
 and_second false b e = absurd (false≢true e)
-
--- the test holds of every sort
-abbrev pub every : (Sort → Bool) → Bool
-every P = P a_label && (P a_label_variable && (P a_tree_variable && (P a_forest_variable && (P a_node_mark && (P (the_word Systeme) && (P (the_word Graphe) && (P (the_word Fin) && (P (the_word Dans) && (P (the_word Hors) && (P (the_word Et) && (P (the_word Ou) && (P (the_word Non) && (P opening && (P closing && (P comma && (P plus && (P slash && (P equals && (P stop)))))))))))))))))))
-
-every_is : (P : Sort → Bool) → every P ≡ true → (k : Sort) → P k ≡ true
-every_is P e a_label = and_first (P a_label) (P a_label_variable && (P a_tree_variable && (P a_forest_variable && (P a_node_mark && (P (the_word Systeme) && (P (the_word Graphe) && (P (the_word Fin) && (P (the_word Dans) && (P (the_word Hors) && (P (the_word Et) && (P (the_word Ou) && (P (the_word Non) && (P opening && (P closing && (P comma && (P plus && (P slash && (P equals && (P stop))))))))))))))))))) (e)
-every_is P e a_label_variable = and_first (P a_label_variable) (P a_tree_variable && (P a_forest_variable && (P a_node_mark && (P (the_word Systeme) && (P (the_word Graphe) && (P (the_word Fin) && (P (the_word Dans) && (P (the_word Hors) && (P (the_word Et) && (P (the_word Ou) && (P (the_word Non) && (P opening && (P closing && (P comma && (P plus && (P slash && (P equals && (P stop)))))))))))))))))) (and_second (P a_label) (P a_label_variable && (P a_tree_variable && (P a_forest_variable && (P a_node_mark && (P (the_word Systeme) && (P (the_word Graphe) && (P (the_word Fin) && (P (the_word Dans) && (P (the_word Hors) && (P (the_word Et) && (P (the_word Ou) && (P (the_word Non) && (P opening && (P closing && (P comma && (P plus && (P slash && (P equals && (P stop))))))))))))))))))) e)
-every_is P e a_tree_variable = and_first (P a_tree_variable) (P a_forest_variable && (P a_node_mark && (P (the_word Systeme) && (P (the_word Graphe) && (P (the_word Fin) && (P (the_word Dans) && (P (the_word Hors) && (P (the_word Et) && (P (the_word Ou) && (P (the_word Non) && (P opening && (P closing && (P comma && (P plus && (P slash && (P equals && (P stop))))))))))))))))) (and_second (P a_label_variable) (P a_tree_variable && (P a_forest_variable && (P a_node_mark && (P (the_word Systeme) && (P (the_word Graphe) && (P (the_word Fin) && (P (the_word Dans) && (P (the_word Hors) && (P (the_word Et) && (P (the_word Ou) && (P (the_word Non) && (P opening && (P closing && (P comma && (P plus && (P slash && (P equals && (P stop)))))))))))))))))) (and_second (P a_label) (P a_label_variable && (P a_tree_variable && (P a_forest_variable && (P a_node_mark && (P (the_word Systeme) && (P (the_word Graphe) && (P (the_word Fin) && (P (the_word Dans) && (P (the_word Hors) && (P (the_word Et) && (P (the_word Ou) && (P (the_word Non) && (P opening && (P closing && (P comma && (P plus && (P slash && (P equals && (P stop))))))))))))))))))) e))
-every_is P e a_forest_variable = and_first (P a_forest_variable) (P a_node_mark && (P (the_word Systeme) && (P (the_word Graphe) && (P (the_word Fin) && (P (the_word Dans) && (P (the_word Hors) && (P (the_word Et) && (P (the_word Ou) && (P (the_word Non) && (P opening && (P closing && (P comma && (P plus && (P slash && (P equals && (P stop)))))))))))))))) (and_second (P a_tree_variable) (P a_forest_variable && (P a_node_mark && (P (the_word Systeme) && (P (the_word Graphe) && (P (the_word Fin) && (P (the_word Dans) && (P (the_word Hors) && (P (the_word Et) && (P (the_word Ou) && (P (the_word Non) && (P opening && (P closing && (P comma && (P plus && (P slash && (P equals && (P stop))))))))))))))))) (and_second (P a_label_variable) (P a_tree_variable && (P a_forest_variable && (P a_node_mark && (P (the_word Systeme) && (P (the_word Graphe) && (P (the_word Fin) && (P (the_word Dans) && (P (the_word Hors) && (P (the_word Et) && (P (the_word Ou) && (P (the_word Non) && (P opening && (P closing && (P comma && (P plus && (P slash && (P equals && (P stop)))))))))))))))))) (and_second (P a_label) (P a_label_variable && (P a_tree_variable && (P a_forest_variable && (P a_node_mark && (P (the_word Systeme) && (P (the_word Graphe) && (P (the_word Fin) && (P (the_word Dans) && (P (the_word Hors) && (P (the_word Et) && (P (the_word Ou) && (P (the_word Non) && (P opening && (P closing && (P comma && (P plus && (P slash && (P equals && (P stop))))))))))))))))))) e)))
-every_is P e a_node_mark = and_first (P a_node_mark) (P (the_word Systeme) && (P (the_word Graphe) && (P (the_word Fin) && (P (the_word Dans) && (P (the_word Hors) && (P (the_word Et) && (P (the_word Ou) && (P (the_word Non) && (P opening && (P closing && (P comma && (P plus && (P slash && (P equals && (P stop))))))))))))))) (and_second (P a_forest_variable) (P a_node_mark && (P (the_word Systeme) && (P (the_word Graphe) && (P (the_word Fin) && (P (the_word Dans) && (P (the_word Hors) && (P (the_word Et) && (P (the_word Ou) && (P (the_word Non) && (P opening && (P closing && (P comma && (P plus && (P slash && (P equals && (P stop)))))))))))))))) (and_second (P a_tree_variable) (P a_forest_variable && (P a_node_mark && (P (the_word Systeme) && (P (the_word Graphe) && (P (the_word Fin) && (P (the_word Dans) && (P (the_word Hors) && (P (the_word Et) && (P (the_word Ou) && (P (the_word Non) && (P opening && (P closing && (P comma && (P plus && (P slash && (P equals && (P stop))))))))))))))))) (and_second (P a_label_variable) (P a_tree_variable && (P a_forest_variable && (P a_node_mark && (P (the_word Systeme) && (P (the_word Graphe) && (P (the_word Fin) && (P (the_word Dans) && (P (the_word Hors) && (P (the_word Et) && (P (the_word Ou) && (P (the_word Non) && (P opening && (P closing && (P comma && (P plus && (P slash && (P equals && (P stop)))))))))))))))))) (and_second (P a_label) (P a_label_variable && (P a_tree_variable && (P a_forest_variable && (P a_node_mark && (P (the_word Systeme) && (P (the_word Graphe) && (P (the_word Fin) && (P (the_word Dans) && (P (the_word Hors) && (P (the_word Et) && (P (the_word Ou) && (P (the_word Non) && (P opening && (P closing && (P comma && (P plus && (P slash && (P equals && (P stop))))))))))))))))))) e))))
-every_is P e (the_word Systeme) = and_first (P (the_word Systeme)) (P (the_word Graphe) && (P (the_word Fin) && (P (the_word Dans) && (P (the_word Hors) && (P (the_word Et) && (P (the_word Ou) && (P (the_word Non) && (P opening && (P closing && (P comma && (P plus && (P slash && (P equals && (P stop)))))))))))))) (and_second (P a_node_mark) (P (the_word Systeme) && (P (the_word Graphe) && (P (the_word Fin) && (P (the_word Dans) && (P (the_word Hors) && (P (the_word Et) && (P (the_word Ou) && (P (the_word Non) && (P opening && (P closing && (P comma && (P plus && (P slash && (P equals && (P stop))))))))))))))) (and_second (P a_forest_variable) (P a_node_mark && (P (the_word Systeme) && (P (the_word Graphe) && (P (the_word Fin) && (P (the_word Dans) && (P (the_word Hors) && (P (the_word Et) && (P (the_word Ou) && (P (the_word Non) && (P opening && (P closing && (P comma && (P plus && (P slash && (P equals && (P stop)))))))))))))))) (and_second (P a_tree_variable) (P a_forest_variable && (P a_node_mark && (P (the_word Systeme) && (P (the_word Graphe) && (P (the_word Fin) && (P (the_word Dans) && (P (the_word Hors) && (P (the_word Et) && (P (the_word Ou) && (P (the_word Non) && (P opening && (P closing && (P comma && (P plus && (P slash && (P equals && (P stop))))))))))))))))) (and_second (P a_label_variable) (P a_tree_variable && (P a_forest_variable && (P a_node_mark && (P (the_word Systeme) && (P (the_word Graphe) && (P (the_word Fin) && (P (the_word Dans) && (P (the_word Hors) && (P (the_word Et) && (P (the_word Ou) && (P (the_word Non) && (P opening && (P closing && (P comma && (P plus && (P slash && (P equals && (P stop)))))))))))))))))) (and_second (P a_label) (P a_label_variable && (P a_tree_variable && (P a_forest_variable && (P a_node_mark && (P (the_word Systeme) && (P (the_word Graphe) && (P (the_word Fin) && (P (the_word Dans) && (P (the_word Hors) && (P (the_word Et) && (P (the_word Ou) && (P (the_word Non) && (P opening && (P closing && (P comma && (P plus && (P slash && (P equals && (P stop))))))))))))))))))) e)))))
-every_is P e (the_word Graphe) = and_first (P (the_word Graphe)) (P (the_word Fin) && (P (the_word Dans) && (P (the_word Hors) && (P (the_word Et) && (P (the_word Ou) && (P (the_word Non) && (P opening && (P closing && (P comma && (P plus && (P slash && (P equals && (P stop))))))))))))) (and_second (P (the_word Systeme)) (P (the_word Graphe) && (P (the_word Fin) && (P (the_word Dans) && (P (the_word Hors) && (P (the_word Et) && (P (the_word Ou) && (P (the_word Non) && (P opening && (P closing && (P comma && (P plus && (P slash && (P equals && (P stop)))))))))))))) (and_second (P a_node_mark) (P (the_word Systeme) && (P (the_word Graphe) && (P (the_word Fin) && (P (the_word Dans) && (P (the_word Hors) && (P (the_word Et) && (P (the_word Ou) && (P (the_word Non) && (P opening && (P closing && (P comma && (P plus && (P slash && (P equals && (P stop))))))))))))))) (and_second (P a_forest_variable) (P a_node_mark && (P (the_word Systeme) && (P (the_word Graphe) && (P (the_word Fin) && (P (the_word Dans) && (P (the_word Hors) && (P (the_word Et) && (P (the_word Ou) && (P (the_word Non) && (P opening && (P closing && (P comma && (P plus && (P slash && (P equals && (P stop)))))))))))))))) (and_second (P a_tree_variable) (P a_forest_variable && (P a_node_mark && (P (the_word Systeme) && (P (the_word Graphe) && (P (the_word Fin) && (P (the_word Dans) && (P (the_word Hors) && (P (the_word Et) && (P (the_word Ou) && (P (the_word Non) && (P opening && (P closing && (P comma && (P plus && (P slash && (P equals && (P stop))))))))))))))))) (and_second (P a_label_variable) (P a_tree_variable && (P a_forest_variable && (P a_node_mark && (P (the_word Systeme) && (P (the_word Graphe) && (P (the_word Fin) && (P (the_word Dans) && (P (the_word Hors) && (P (the_word Et) && (P (the_word Ou) && (P (the_word Non) && (P opening && (P closing && (P comma && (P plus && (P slash && (P equals && (P stop)))))))))))))))))) (and_second (P a_label) (P a_label_variable && (P a_tree_variable && (P a_forest_variable && (P a_node_mark && (P (the_word Systeme) && (P (the_word Graphe) && (P (the_word Fin) && (P (the_word Dans) && (P (the_word Hors) && (P (the_word Et) && (P (the_word Ou) && (P (the_word Non) && (P opening && (P closing && (P comma && (P plus && (P slash && (P equals && (P stop))))))))))))))))))) e))))))
-every_is P e (the_word Fin) = and_first (P (the_word Fin)) (P (the_word Dans) && (P (the_word Hors) && (P (the_word Et) && (P (the_word Ou) && (P (the_word Non) && (P opening && (P closing && (P comma && (P plus && (P slash && (P equals && (P stop)))))))))))) (and_second (P (the_word Graphe)) (P (the_word Fin) && (P (the_word Dans) && (P (the_word Hors) && (P (the_word Et) && (P (the_word Ou) && (P (the_word Non) && (P opening && (P closing && (P comma && (P plus && (P slash && (P equals && (P stop))))))))))))) (and_second (P (the_word Systeme)) (P (the_word Graphe) && (P (the_word Fin) && (P (the_word Dans) && (P (the_word Hors) && (P (the_word Et) && (P (the_word Ou) && (P (the_word Non) && (P opening && (P closing && (P comma && (P plus && (P slash && (P equals && (P stop)))))))))))))) (and_second (P a_node_mark) (P (the_word Systeme) && (P (the_word Graphe) && (P (the_word Fin) && (P (the_word Dans) && (P (the_word Hors) && (P (the_word Et) && (P (the_word Ou) && (P (the_word Non) && (P opening && (P closing && (P comma && (P plus && (P slash && (P equals && (P stop))))))))))))))) (and_second (P a_forest_variable) (P a_node_mark && (P (the_word Systeme) && (P (the_word Graphe) && (P (the_word Fin) && (P (the_word Dans) && (P (the_word Hors) && (P (the_word Et) && (P (the_word Ou) && (P (the_word Non) && (P opening && (P closing && (P comma && (P plus && (P slash && (P equals && (P stop)))))))))))))))) (and_second (P a_tree_variable) (P a_forest_variable && (P a_node_mark && (P (the_word Systeme) && (P (the_word Graphe) && (P (the_word Fin) && (P (the_word Dans) && (P (the_word Hors) && (P (the_word Et) && (P (the_word Ou) && (P (the_word Non) && (P opening && (P closing && (P comma && (P plus && (P slash && (P equals && (P stop))))))))))))))))) (and_second (P a_label_variable) (P a_tree_variable && (P a_forest_variable && (P a_node_mark && (P (the_word Systeme) && (P (the_word Graphe) && (P (the_word Fin) && (P (the_word Dans) && (P (the_word Hors) && (P (the_word Et) && (P (the_word Ou) && (P (the_word Non) && (P opening && (P closing && (P comma && (P plus && (P slash && (P equals && (P stop)))))))))))))))))) (and_second (P a_label) (P a_label_variable && (P a_tree_variable && (P a_forest_variable && (P a_node_mark && (P (the_word Systeme) && (P (the_word Graphe) && (P (the_word Fin) && (P (the_word Dans) && (P (the_word Hors) && (P (the_word Et) && (P (the_word Ou) && (P (the_word Non) && (P opening && (P closing && (P comma && (P plus && (P slash && (P equals && (P stop))))))))))))))))))) e)))))))
-every_is P e (the_word Dans) = and_first (P (the_word Dans)) (P (the_word Hors) && (P (the_word Et) && (P (the_word Ou) && (P (the_word Non) && (P opening && (P closing && (P comma && (P plus && (P slash && (P equals && (P stop))))))))))) (and_second (P (the_word Fin)) (P (the_word Dans) && (P (the_word Hors) && (P (the_word Et) && (P (the_word Ou) && (P (the_word Non) && (P opening && (P closing && (P comma && (P plus && (P slash && (P equals && (P stop)))))))))))) (and_second (P (the_word Graphe)) (P (the_word Fin) && (P (the_word Dans) && (P (the_word Hors) && (P (the_word Et) && (P (the_word Ou) && (P (the_word Non) && (P opening && (P closing && (P comma && (P plus && (P slash && (P equals && (P stop))))))))))))) (and_second (P (the_word Systeme)) (P (the_word Graphe) && (P (the_word Fin) && (P (the_word Dans) && (P (the_word Hors) && (P (the_word Et) && (P (the_word Ou) && (P (the_word Non) && (P opening && (P closing && (P comma && (P plus && (P slash && (P equals && (P stop)))))))))))))) (and_second (P a_node_mark) (P (the_word Systeme) && (P (the_word Graphe) && (P (the_word Fin) && (P (the_word Dans) && (P (the_word Hors) && (P (the_word Et) && (P (the_word Ou) && (P (the_word Non) && (P opening && (P closing && (P comma && (P plus && (P slash && (P equals && (P stop))))))))))))))) (and_second (P a_forest_variable) (P a_node_mark && (P (the_word Systeme) && (P (the_word Graphe) && (P (the_word Fin) && (P (the_word Dans) && (P (the_word Hors) && (P (the_word Et) && (P (the_word Ou) && (P (the_word Non) && (P opening && (P closing && (P comma && (P plus && (P slash && (P equals && (P stop)))))))))))))))) (and_second (P a_tree_variable) (P a_forest_variable && (P a_node_mark && (P (the_word Systeme) && (P (the_word Graphe) && (P (the_word Fin) && (P (the_word Dans) && (P (the_word Hors) && (P (the_word Et) && (P (the_word Ou) && (P (the_word Non) && (P opening && (P closing && (P comma && (P plus && (P slash && (P equals && (P stop))))))))))))))))) (and_second (P a_label_variable) (P a_tree_variable && (P a_forest_variable && (P a_node_mark && (P (the_word Systeme) && (P (the_word Graphe) && (P (the_word Fin) && (P (the_word Dans) && (P (the_word Hors) && (P (the_word Et) && (P (the_word Ou) && (P (the_word Non) && (P opening && (P closing && (P comma && (P plus && (P slash && (P equals && (P stop)))))))))))))))))) (and_second (P a_label) (P a_label_variable && (P a_tree_variable && (P a_forest_variable && (P a_node_mark && (P (the_word Systeme) && (P (the_word Graphe) && (P (the_word Fin) && (P (the_word Dans) && (P (the_word Hors) && (P (the_word Et) && (P (the_word Ou) && (P (the_word Non) && (P opening && (P closing && (P comma && (P plus && (P slash && (P equals && (P stop))))))))))))))))))) e))))))))
-every_is P e (the_word Hors) = and_first (P (the_word Hors)) (P (the_word Et) && (P (the_word Ou) && (P (the_word Non) && (P opening && (P closing && (P comma && (P plus && (P slash && (P equals && (P stop)))))))))) (and_second (P (the_word Dans)) (P (the_word Hors) && (P (the_word Et) && (P (the_word Ou) && (P (the_word Non) && (P opening && (P closing && (P comma && (P plus && (P slash && (P equals && (P stop))))))))))) (and_second (P (the_word Fin)) (P (the_word Dans) && (P (the_word Hors) && (P (the_word Et) && (P (the_word Ou) && (P (the_word Non) && (P opening && (P closing && (P comma && (P plus && (P slash && (P equals && (P stop)))))))))))) (and_second (P (the_word Graphe)) (P (the_word Fin) && (P (the_word Dans) && (P (the_word Hors) && (P (the_word Et) && (P (the_word Ou) && (P (the_word Non) && (P opening && (P closing && (P comma && (P plus && (P slash && (P equals && (P stop))))))))))))) (and_second (P (the_word Systeme)) (P (the_word Graphe) && (P (the_word Fin) && (P (the_word Dans) && (P (the_word Hors) && (P (the_word Et) && (P (the_word Ou) && (P (the_word Non) && (P opening && (P closing && (P comma && (P plus && (P slash && (P equals && (P stop)))))))))))))) (and_second (P a_node_mark) (P (the_word Systeme) && (P (the_word Graphe) && (P (the_word Fin) && (P (the_word Dans) && (P (the_word Hors) && (P (the_word Et) && (P (the_word Ou) && (P (the_word Non) && (P opening && (P closing && (P comma && (P plus && (P slash && (P equals && (P stop))))))))))))))) (and_second (P a_forest_variable) (P a_node_mark && (P (the_word Systeme) && (P (the_word Graphe) && (P (the_word Fin) && (P (the_word Dans) && (P (the_word Hors) && (P (the_word Et) && (P (the_word Ou) && (P (the_word Non) && (P opening && (P closing && (P comma && (P plus && (P slash && (P equals && (P stop)))))))))))))))) (and_second (P a_tree_variable) (P a_forest_variable && (P a_node_mark && (P (the_word Systeme) && (P (the_word Graphe) && (P (the_word Fin) && (P (the_word Dans) && (P (the_word Hors) && (P (the_word Et) && (P (the_word Ou) && (P (the_word Non) && (P opening && (P closing && (P comma && (P plus && (P slash && (P equals && (P stop))))))))))))))))) (and_second (P a_label_variable) (P a_tree_variable && (P a_forest_variable && (P a_node_mark && (P (the_word Systeme) && (P (the_word Graphe) && (P (the_word Fin) && (P (the_word Dans) && (P (the_word Hors) && (P (the_word Et) && (P (the_word Ou) && (P (the_word Non) && (P opening && (P closing && (P comma && (P plus && (P slash && (P equals && (P stop)))))))))))))))))) (and_second (P a_label) (P a_label_variable && (P a_tree_variable && (P a_forest_variable && (P a_node_mark && (P (the_word Systeme) && (P (the_word Graphe) && (P (the_word Fin) && (P (the_word Dans) && (P (the_word Hors) && (P (the_word Et) && (P (the_word Ou) && (P (the_word Non) && (P opening && (P closing && (P comma && (P plus && (P slash && (P equals && (P stop))))))))))))))))))) e)))))))))
-every_is P e (the_word Et) = and_first (P (the_word Et)) (P (the_word Ou) && (P (the_word Non) && (P opening && (P closing && (P comma && (P plus && (P slash && (P equals && (P stop))))))))) (and_second (P (the_word Hors)) (P (the_word Et) && (P (the_word Ou) && (P (the_word Non) && (P opening && (P closing && (P comma && (P plus && (P slash && (P equals && (P stop)))))))))) (and_second (P (the_word Dans)) (P (the_word Hors) && (P (the_word Et) && (P (the_word Ou) && (P (the_word Non) && (P opening && (P closing && (P comma && (P plus && (P slash && (P equals && (P stop))))))))))) (and_second (P (the_word Fin)) (P (the_word Dans) && (P (the_word Hors) && (P (the_word Et) && (P (the_word Ou) && (P (the_word Non) && (P opening && (P closing && (P comma && (P plus && (P slash && (P equals && (P stop)))))))))))) (and_second (P (the_word Graphe)) (P (the_word Fin) && (P (the_word Dans) && (P (the_word Hors) && (P (the_word Et) && (P (the_word Ou) && (P (the_word Non) && (P opening && (P closing && (P comma && (P plus && (P slash && (P equals && (P stop))))))))))))) (and_second (P (the_word Systeme)) (P (the_word Graphe) && (P (the_word Fin) && (P (the_word Dans) && (P (the_word Hors) && (P (the_word Et) && (P (the_word Ou) && (P (the_word Non) && (P opening && (P closing && (P comma && (P plus && (P slash && (P equals && (P stop)))))))))))))) (and_second (P a_node_mark) (P (the_word Systeme) && (P (the_word Graphe) && (P (the_word Fin) && (P (the_word Dans) && (P (the_word Hors) && (P (the_word Et) && (P (the_word Ou) && (P (the_word Non) && (P opening && (P closing && (P comma && (P plus && (P slash && (P equals && (P stop))))))))))))))) (and_second (P a_forest_variable) (P a_node_mark && (P (the_word Systeme) && (P (the_word Graphe) && (P (the_word Fin) && (P (the_word Dans) && (P (the_word Hors) && (P (the_word Et) && (P (the_word Ou) && (P (the_word Non) && (P opening && (P closing && (P comma && (P plus && (P slash && (P equals && (P stop)))))))))))))))) (and_second (P a_tree_variable) (P a_forest_variable && (P a_node_mark && (P (the_word Systeme) && (P (the_word Graphe) && (P (the_word Fin) && (P (the_word Dans) && (P (the_word Hors) && (P (the_word Et) && (P (the_word Ou) && (P (the_word Non) && (P opening && (P closing && (P comma && (P plus && (P slash && (P equals && (P stop))))))))))))))))) (and_second (P a_label_variable) (P a_tree_variable && (P a_forest_variable && (P a_node_mark && (P (the_word Systeme) && (P (the_word Graphe) && (P (the_word Fin) && (P (the_word Dans) && (P (the_word Hors) && (P (the_word Et) && (P (the_word Ou) && (P (the_word Non) && (P opening && (P closing && (P comma && (P plus && (P slash && (P equals && (P stop)))))))))))))))))) (and_second (P a_label) (P a_label_variable && (P a_tree_variable && (P a_forest_variable && (P a_node_mark && (P (the_word Systeme) && (P (the_word Graphe) && (P (the_word Fin) && (P (the_word Dans) && (P (the_word Hors) && (P (the_word Et) && (P (the_word Ou) && (P (the_word Non) && (P opening && (P closing && (P comma && (P plus && (P slash && (P equals && (P stop))))))))))))))))))) e))))))))))
-every_is P e (the_word Ou) = and_first (P (the_word Ou)) (P (the_word Non) && (P opening && (P closing && (P comma && (P plus && (P slash && (P equals && (P stop)))))))) (and_second (P (the_word Et)) (P (the_word Ou) && (P (the_word Non) && (P opening && (P closing && (P comma && (P plus && (P slash && (P equals && (P stop))))))))) (and_second (P (the_word Hors)) (P (the_word Et) && (P (the_word Ou) && (P (the_word Non) && (P opening && (P closing && (P comma && (P plus && (P slash && (P equals && (P stop)))))))))) (and_second (P (the_word Dans)) (P (the_word Hors) && (P (the_word Et) && (P (the_word Ou) && (P (the_word Non) && (P opening && (P closing && (P comma && (P plus && (P slash && (P equals && (P stop))))))))))) (and_second (P (the_word Fin)) (P (the_word Dans) && (P (the_word Hors) && (P (the_word Et) && (P (the_word Ou) && (P (the_word Non) && (P opening && (P closing && (P comma && (P plus && (P slash && (P equals && (P stop)))))))))))) (and_second (P (the_word Graphe)) (P (the_word Fin) && (P (the_word Dans) && (P (the_word Hors) && (P (the_word Et) && (P (the_word Ou) && (P (the_word Non) && (P opening && (P closing && (P comma && (P plus && (P slash && (P equals && (P stop))))))))))))) (and_second (P (the_word Systeme)) (P (the_word Graphe) && (P (the_word Fin) && (P (the_word Dans) && (P (the_word Hors) && (P (the_word Et) && (P (the_word Ou) && (P (the_word Non) && (P opening && (P closing && (P comma && (P plus && (P slash && (P equals && (P stop)))))))))))))) (and_second (P a_node_mark) (P (the_word Systeme) && (P (the_word Graphe) && (P (the_word Fin) && (P (the_word Dans) && (P (the_word Hors) && (P (the_word Et) && (P (the_word Ou) && (P (the_word Non) && (P opening && (P closing && (P comma && (P plus && (P slash && (P equals && (P stop))))))))))))))) (and_second (P a_forest_variable) (P a_node_mark && (P (the_word Systeme) && (P (the_word Graphe) && (P (the_word Fin) && (P (the_word Dans) && (P (the_word Hors) && (P (the_word Et) && (P (the_word Ou) && (P (the_word Non) && (P opening && (P closing && (P comma && (P plus && (P slash && (P equals && (P stop)))))))))))))))) (and_second (P a_tree_variable) (P a_forest_variable && (P a_node_mark && (P (the_word Systeme) && (P (the_word Graphe) && (P (the_word Fin) && (P (the_word Dans) && (P (the_word Hors) && (P (the_word Et) && (P (the_word Ou) && (P (the_word Non) && (P opening && (P closing && (P comma && (P plus && (P slash && (P equals && (P stop))))))))))))))))) (and_second (P a_label_variable) (P a_tree_variable && (P a_forest_variable && (P a_node_mark && (P (the_word Systeme) && (P (the_word Graphe) && (P (the_word Fin) && (P (the_word Dans) && (P (the_word Hors) && (P (the_word Et) && (P (the_word Ou) && (P (the_word Non) && (P opening && (P closing && (P comma && (P plus && (P slash && (P equals && (P stop)))))))))))))))))) (and_second (P a_label) (P a_label_variable && (P a_tree_variable && (P a_forest_variable && (P a_node_mark && (P (the_word Systeme) && (P (the_word Graphe) && (P (the_word Fin) && (P (the_word Dans) && (P (the_word Hors) && (P (the_word Et) && (P (the_word Ou) && (P (the_word Non) && (P opening && (P closing && (P comma && (P plus && (P slash && (P equals && (P stop))))))))))))))))))) e)))))))))))
-every_is P e (the_word Non) = and_first (P (the_word Non)) (P opening && (P closing && (P comma && (P plus && (P slash && (P equals && (P stop))))))) (and_second (P (the_word Ou)) (P (the_word Non) && (P opening && (P closing && (P comma && (P plus && (P slash && (P equals && (P stop)))))))) (and_second (P (the_word Et)) (P (the_word Ou) && (P (the_word Non) && (P opening && (P closing && (P comma && (P plus && (P slash && (P equals && (P stop))))))))) (and_second (P (the_word Hors)) (P (the_word Et) && (P (the_word Ou) && (P (the_word Non) && (P opening && (P closing && (P comma && (P plus && (P slash && (P equals && (P stop)))))))))) (and_second (P (the_word Dans)) (P (the_word Hors) && (P (the_word Et) && (P (the_word Ou) && (P (the_word Non) && (P opening && (P closing && (P comma && (P plus && (P slash && (P equals && (P stop))))))))))) (and_second (P (the_word Fin)) (P (the_word Dans) && (P (the_word Hors) && (P (the_word Et) && (P (the_word Ou) && (P (the_word Non) && (P opening && (P closing && (P comma && (P plus && (P slash && (P equals && (P stop)))))))))))) (and_second (P (the_word Graphe)) (P (the_word Fin) && (P (the_word Dans) && (P (the_word Hors) && (P (the_word Et) && (P (the_word Ou) && (P (the_word Non) && (P opening && (P closing && (P comma && (P plus && (P slash && (P equals && (P stop))))))))))))) (and_second (P (the_word Systeme)) (P (the_word Graphe) && (P (the_word Fin) && (P (the_word Dans) && (P (the_word Hors) && (P (the_word Et) && (P (the_word Ou) && (P (the_word Non) && (P opening && (P closing && (P comma && (P plus && (P slash && (P equals && (P stop)))))))))))))) (and_second (P a_node_mark) (P (the_word Systeme) && (P (the_word Graphe) && (P (the_word Fin) && (P (the_word Dans) && (P (the_word Hors) && (P (the_word Et) && (P (the_word Ou) && (P (the_word Non) && (P opening && (P closing && (P comma && (P plus && (P slash && (P equals && (P stop))))))))))))))) (and_second (P a_forest_variable) (P a_node_mark && (P (the_word Systeme) && (P (the_word Graphe) && (P (the_word Fin) && (P (the_word Dans) && (P (the_word Hors) && (P (the_word Et) && (P (the_word Ou) && (P (the_word Non) && (P opening && (P closing && (P comma && (P plus && (P slash && (P equals && (P stop)))))))))))))))) (and_second (P a_tree_variable) (P a_forest_variable && (P a_node_mark && (P (the_word Systeme) && (P (the_word Graphe) && (P (the_word Fin) && (P (the_word Dans) && (P (the_word Hors) && (P (the_word Et) && (P (the_word Ou) && (P (the_word Non) && (P opening && (P closing && (P comma && (P plus && (P slash && (P equals && (P stop))))))))))))))))) (and_second (P a_label_variable) (P a_tree_variable && (P a_forest_variable && (P a_node_mark && (P (the_word Systeme) && (P (the_word Graphe) && (P (the_word Fin) && (P (the_word Dans) && (P (the_word Hors) && (P (the_word Et) && (P (the_word Ou) && (P (the_word Non) && (P opening && (P closing && (P comma && (P plus && (P slash && (P equals && (P stop)))))))))))))))))) (and_second (P a_label) (P a_label_variable && (P a_tree_variable && (P a_forest_variable && (P a_node_mark && (P (the_word Systeme) && (P (the_word Graphe) && (P (the_word Fin) && (P (the_word Dans) && (P (the_word Hors) && (P (the_word Et) && (P (the_word Ou) && (P (the_word Non) && (P opening && (P closing && (P comma && (P plus && (P slash && (P equals && (P stop))))))))))))))))))) e))))))))))))
-every_is P e opening = and_first (P opening) (P closing && (P comma && (P plus && (P slash && (P equals && (P stop)))))) (and_second (P (the_word Non)) (P opening && (P closing && (P comma && (P plus && (P slash && (P equals && (P stop))))))) (and_second (P (the_word Ou)) (P (the_word Non) && (P opening && (P closing && (P comma && (P plus && (P slash && (P equals && (P stop)))))))) (and_second (P (the_word Et)) (P (the_word Ou) && (P (the_word Non) && (P opening && (P closing && (P comma && (P plus && (P slash && (P equals && (P stop))))))))) (and_second (P (the_word Hors)) (P (the_word Et) && (P (the_word Ou) && (P (the_word Non) && (P opening && (P closing && (P comma && (P plus && (P slash && (P equals && (P stop)))))))))) (and_second (P (the_word Dans)) (P (the_word Hors) && (P (the_word Et) && (P (the_word Ou) && (P (the_word Non) && (P opening && (P closing && (P comma && (P plus && (P slash && (P equals && (P stop))))))))))) (and_second (P (the_word Fin)) (P (the_word Dans) && (P (the_word Hors) && (P (the_word Et) && (P (the_word Ou) && (P (the_word Non) && (P opening && (P closing && (P comma && (P plus && (P slash && (P equals && (P stop)))))))))))) (and_second (P (the_word Graphe)) (P (the_word Fin) && (P (the_word Dans) && (P (the_word Hors) && (P (the_word Et) && (P (the_word Ou) && (P (the_word Non) && (P opening && (P closing && (P comma && (P plus && (P slash && (P equals && (P stop))))))))))))) (and_second (P (the_word Systeme)) (P (the_word Graphe) && (P (the_word Fin) && (P (the_word Dans) && (P (the_word Hors) && (P (the_word Et) && (P (the_word Ou) && (P (the_word Non) && (P opening && (P closing && (P comma && (P plus && (P slash && (P equals && (P stop)))))))))))))) (and_second (P a_node_mark) (P (the_word Systeme) && (P (the_word Graphe) && (P (the_word Fin) && (P (the_word Dans) && (P (the_word Hors) && (P (the_word Et) && (P (the_word Ou) && (P (the_word Non) && (P opening && (P closing && (P comma && (P plus && (P slash && (P equals && (P stop))))))))))))))) (and_second (P a_forest_variable) (P a_node_mark && (P (the_word Systeme) && (P (the_word Graphe) && (P (the_word Fin) && (P (the_word Dans) && (P (the_word Hors) && (P (the_word Et) && (P (the_word Ou) && (P (the_word Non) && (P opening && (P closing && (P comma && (P plus && (P slash && (P equals && (P stop)))))))))))))))) (and_second (P a_tree_variable) (P a_forest_variable && (P a_node_mark && (P (the_word Systeme) && (P (the_word Graphe) && (P (the_word Fin) && (P (the_word Dans) && (P (the_word Hors) && (P (the_word Et) && (P (the_word Ou) && (P (the_word Non) && (P opening && (P closing && (P comma && (P plus && (P slash && (P equals && (P stop))))))))))))))))) (and_second (P a_label_variable) (P a_tree_variable && (P a_forest_variable && (P a_node_mark && (P (the_word Systeme) && (P (the_word Graphe) && (P (the_word Fin) && (P (the_word Dans) && (P (the_word Hors) && (P (the_word Et) && (P (the_word Ou) && (P (the_word Non) && (P opening && (P closing && (P comma && (P plus && (P slash && (P equals && (P stop)))))))))))))))))) (and_second (P a_label) (P a_label_variable && (P a_tree_variable && (P a_forest_variable && (P a_node_mark && (P (the_word Systeme) && (P (the_word Graphe) && (P (the_word Fin) && (P (the_word Dans) && (P (the_word Hors) && (P (the_word Et) && (P (the_word Ou) && (P (the_word Non) && (P opening && (P closing && (P comma && (P plus && (P slash && (P equals && (P stop))))))))))))))))))) e)))))))))))))
-every_is P e closing = and_first (P closing) (P comma && (P plus && (P slash && (P equals && (P stop))))) (and_second (P opening) (P closing && (P comma && (P plus && (P slash && (P equals && (P stop)))))) (and_second (P (the_word Non)) (P opening && (P closing && (P comma && (P plus && (P slash && (P equals && (P stop))))))) (and_second (P (the_word Ou)) (P (the_word Non) && (P opening && (P closing && (P comma && (P plus && (P slash && (P equals && (P stop)))))))) (and_second (P (the_word Et)) (P (the_word Ou) && (P (the_word Non) && (P opening && (P closing && (P comma && (P plus && (P slash && (P equals && (P stop))))))))) (and_second (P (the_word Hors)) (P (the_word Et) && (P (the_word Ou) && (P (the_word Non) && (P opening && (P closing && (P comma && (P plus && (P slash && (P equals && (P stop)))))))))) (and_second (P (the_word Dans)) (P (the_word Hors) && (P (the_word Et) && (P (the_word Ou) && (P (the_word Non) && (P opening && (P closing && (P comma && (P plus && (P slash && (P equals && (P stop))))))))))) (and_second (P (the_word Fin)) (P (the_word Dans) && (P (the_word Hors) && (P (the_word Et) && (P (the_word Ou) && (P (the_word Non) && (P opening && (P closing && (P comma && (P plus && (P slash && (P equals && (P stop)))))))))))) (and_second (P (the_word Graphe)) (P (the_word Fin) && (P (the_word Dans) && (P (the_word Hors) && (P (the_word Et) && (P (the_word Ou) && (P (the_word Non) && (P opening && (P closing && (P comma && (P plus && (P slash && (P equals && (P stop))))))))))))) (and_second (P (the_word Systeme)) (P (the_word Graphe) && (P (the_word Fin) && (P (the_word Dans) && (P (the_word Hors) && (P (the_word Et) && (P (the_word Ou) && (P (the_word Non) && (P opening && (P closing && (P comma && (P plus && (P slash && (P equals && (P stop)))))))))))))) (and_second (P a_node_mark) (P (the_word Systeme) && (P (the_word Graphe) && (P (the_word Fin) && (P (the_word Dans) && (P (the_word Hors) && (P (the_word Et) && (P (the_word Ou) && (P (the_word Non) && (P opening && (P closing && (P comma && (P plus && (P slash && (P equals && (P stop))))))))))))))) (and_second (P a_forest_variable) (P a_node_mark && (P (the_word Systeme) && (P (the_word Graphe) && (P (the_word Fin) && (P (the_word Dans) && (P (the_word Hors) && (P (the_word Et) && (P (the_word Ou) && (P (the_word Non) && (P opening && (P closing && (P comma && (P plus && (P slash && (P equals && (P stop)))))))))))))))) (and_second (P a_tree_variable) (P a_forest_variable && (P a_node_mark && (P (the_word Systeme) && (P (the_word Graphe) && (P (the_word Fin) && (P (the_word Dans) && (P (the_word Hors) && (P (the_word Et) && (P (the_word Ou) && (P (the_word Non) && (P opening && (P closing && (P comma && (P plus && (P slash && (P equals && (P stop))))))))))))))))) (and_second (P a_label_variable) (P a_tree_variable && (P a_forest_variable && (P a_node_mark && (P (the_word Systeme) && (P (the_word Graphe) && (P (the_word Fin) && (P (the_word Dans) && (P (the_word Hors) && (P (the_word Et) && (P (the_word Ou) && (P (the_word Non) && (P opening && (P closing && (P comma && (P plus && (P slash && (P equals && (P stop)))))))))))))))))) (and_second (P a_label) (P a_label_variable && (P a_tree_variable && (P a_forest_variable && (P a_node_mark && (P (the_word Systeme) && (P (the_word Graphe) && (P (the_word Fin) && (P (the_word Dans) && (P (the_word Hors) && (P (the_word Et) && (P (the_word Ou) && (P (the_word Non) && (P opening && (P closing && (P comma && (P plus && (P slash && (P equals && (P stop))))))))))))))))))) e))))))))))))))
-every_is P e comma = and_first (P comma) (P plus && (P slash && (P equals && (P stop)))) (and_second (P closing) (P comma && (P plus && (P slash && (P equals && (P stop))))) (and_second (P opening) (P closing && (P comma && (P plus && (P slash && (P equals && (P stop)))))) (and_second (P (the_word Non)) (P opening && (P closing && (P comma && (P plus && (P slash && (P equals && (P stop))))))) (and_second (P (the_word Ou)) (P (the_word Non) && (P opening && (P closing && (P comma && (P plus && (P slash && (P equals && (P stop)))))))) (and_second (P (the_word Et)) (P (the_word Ou) && (P (the_word Non) && (P opening && (P closing && (P comma && (P plus && (P slash && (P equals && (P stop))))))))) (and_second (P (the_word Hors)) (P (the_word Et) && (P (the_word Ou) && (P (the_word Non) && (P opening && (P closing && (P comma && (P plus && (P slash && (P equals && (P stop)))))))))) (and_second (P (the_word Dans)) (P (the_word Hors) && (P (the_word Et) && (P (the_word Ou) && (P (the_word Non) && (P opening && (P closing && (P comma && (P plus && (P slash && (P equals && (P stop))))))))))) (and_second (P (the_word Fin)) (P (the_word Dans) && (P (the_word Hors) && (P (the_word Et) && (P (the_word Ou) && (P (the_word Non) && (P opening && (P closing && (P comma && (P plus && (P slash && (P equals && (P stop)))))))))))) (and_second (P (the_word Graphe)) (P (the_word Fin) && (P (the_word Dans) && (P (the_word Hors) && (P (the_word Et) && (P (the_word Ou) && (P (the_word Non) && (P opening && (P closing && (P comma && (P plus && (P slash && (P equals && (P stop))))))))))))) (and_second (P (the_word Systeme)) (P (the_word Graphe) && (P (the_word Fin) && (P (the_word Dans) && (P (the_word Hors) && (P (the_word Et) && (P (the_word Ou) && (P (the_word Non) && (P opening && (P closing && (P comma && (P plus && (P slash && (P equals && (P stop)))))))))))))) (and_second (P a_node_mark) (P (the_word Systeme) && (P (the_word Graphe) && (P (the_word Fin) && (P (the_word Dans) && (P (the_word Hors) && (P (the_word Et) && (P (the_word Ou) && (P (the_word Non) && (P opening && (P closing && (P comma && (P plus && (P slash && (P equals && (P stop))))))))))))))) (and_second (P a_forest_variable) (P a_node_mark && (P (the_word Systeme) && (P (the_word Graphe) && (P (the_word Fin) && (P (the_word Dans) && (P (the_word Hors) && (P (the_word Et) && (P (the_word Ou) && (P (the_word Non) && (P opening && (P closing && (P comma && (P plus && (P slash && (P equals && (P stop)))))))))))))))) (and_second (P a_tree_variable) (P a_forest_variable && (P a_node_mark && (P (the_word Systeme) && (P (the_word Graphe) && (P (the_word Fin) && (P (the_word Dans) && (P (the_word Hors) && (P (the_word Et) && (P (the_word Ou) && (P (the_word Non) && (P opening && (P closing && (P comma && (P plus && (P slash && (P equals && (P stop))))))))))))))))) (and_second (P a_label_variable) (P a_tree_variable && (P a_forest_variable && (P a_node_mark && (P (the_word Systeme) && (P (the_word Graphe) && (P (the_word Fin) && (P (the_word Dans) && (P (the_word Hors) && (P (the_word Et) && (P (the_word Ou) && (P (the_word Non) && (P opening && (P closing && (P comma && (P plus && (P slash && (P equals && (P stop)))))))))))))))))) (and_second (P a_label) (P a_label_variable && (P a_tree_variable && (P a_forest_variable && (P a_node_mark && (P (the_word Systeme) && (P (the_word Graphe) && (P (the_word Fin) && (P (the_word Dans) && (P (the_word Hors) && (P (the_word Et) && (P (the_word Ou) && (P (the_word Non) && (P opening && (P closing && (P comma && (P plus && (P slash && (P equals && (P stop))))))))))))))))))) e)))))))))))))))
-every_is P e plus = and_first (P plus) (P slash && (P equals && (P stop))) (and_second (P comma) (P plus && (P slash && (P equals && (P stop)))) (and_second (P closing) (P comma && (P plus && (P slash && (P equals && (P stop))))) (and_second (P opening) (P closing && (P comma && (P plus && (P slash && (P equals && (P stop)))))) (and_second (P (the_word Non)) (P opening && (P closing && (P comma && (P plus && (P slash && (P equals && (P stop))))))) (and_second (P (the_word Ou)) (P (the_word Non) && (P opening && (P closing && (P comma && (P plus && (P slash && (P equals && (P stop)))))))) (and_second (P (the_word Et)) (P (the_word Ou) && (P (the_word Non) && (P opening && (P closing && (P comma && (P plus && (P slash && (P equals && (P stop))))))))) (and_second (P (the_word Hors)) (P (the_word Et) && (P (the_word Ou) && (P (the_word Non) && (P opening && (P closing && (P comma && (P plus && (P slash && (P equals && (P stop)))))))))) (and_second (P (the_word Dans)) (P (the_word Hors) && (P (the_word Et) && (P (the_word Ou) && (P (the_word Non) && (P opening && (P closing && (P comma && (P plus && (P slash && (P equals && (P stop))))))))))) (and_second (P (the_word Fin)) (P (the_word Dans) && (P (the_word Hors) && (P (the_word Et) && (P (the_word Ou) && (P (the_word Non) && (P opening && (P closing && (P comma && (P plus && (P slash && (P equals && (P stop)))))))))))) (and_second (P (the_word Graphe)) (P (the_word Fin) && (P (the_word Dans) && (P (the_word Hors) && (P (the_word Et) && (P (the_word Ou) && (P (the_word Non) && (P opening && (P closing && (P comma && (P plus && (P slash && (P equals && (P stop))))))))))))) (and_second (P (the_word Systeme)) (P (the_word Graphe) && (P (the_word Fin) && (P (the_word Dans) && (P (the_word Hors) && (P (the_word Et) && (P (the_word Ou) && (P (the_word Non) && (P opening && (P closing && (P comma && (P plus && (P slash && (P equals && (P stop)))))))))))))) (and_second (P a_node_mark) (P (the_word Systeme) && (P (the_word Graphe) && (P (the_word Fin) && (P (the_word Dans) && (P (the_word Hors) && (P (the_word Et) && (P (the_word Ou) && (P (the_word Non) && (P opening && (P closing && (P comma && (P plus && (P slash && (P equals && (P stop))))))))))))))) (and_second (P a_forest_variable) (P a_node_mark && (P (the_word Systeme) && (P (the_word Graphe) && (P (the_word Fin) && (P (the_word Dans) && (P (the_word Hors) && (P (the_word Et) && (P (the_word Ou) && (P (the_word Non) && (P opening && (P closing && (P comma && (P plus && (P slash && (P equals && (P stop)))))))))))))))) (and_second (P a_tree_variable) (P a_forest_variable && (P a_node_mark && (P (the_word Systeme) && (P (the_word Graphe) && (P (the_word Fin) && (P (the_word Dans) && (P (the_word Hors) && (P (the_word Et) && (P (the_word Ou) && (P (the_word Non) && (P opening && (P closing && (P comma && (P plus && (P slash && (P equals && (P stop))))))))))))))))) (and_second (P a_label_variable) (P a_tree_variable && (P a_forest_variable && (P a_node_mark && (P (the_word Systeme) && (P (the_word Graphe) && (P (the_word Fin) && (P (the_word Dans) && (P (the_word Hors) && (P (the_word Et) && (P (the_word Ou) && (P (the_word Non) && (P opening && (P closing && (P comma && (P plus && (P slash && (P equals && (P stop)))))))))))))))))) (and_second (P a_label) (P a_label_variable && (P a_tree_variable && (P a_forest_variable && (P a_node_mark && (P (the_word Systeme) && (P (the_word Graphe) && (P (the_word Fin) && (P (the_word Dans) && (P (the_word Hors) && (P (the_word Et) && (P (the_word Ou) && (P (the_word Non) && (P opening && (P closing && (P comma && (P plus && (P slash && (P equals && (P stop))))))))))))))))))) e))))))))))))))))
-every_is P e slash = and_first (P slash) (P equals && (P stop)) (and_second (P plus) (P slash && (P equals && (P stop))) (and_second (P comma) (P plus && (P slash && (P equals && (P stop)))) (and_second (P closing) (P comma && (P plus && (P slash && (P equals && (P stop))))) (and_second (P opening) (P closing && (P comma && (P plus && (P slash && (P equals && (P stop)))))) (and_second (P (the_word Non)) (P opening && (P closing && (P comma && (P plus && (P slash && (P equals && (P stop))))))) (and_second (P (the_word Ou)) (P (the_word Non) && (P opening && (P closing && (P comma && (P plus && (P slash && (P equals && (P stop)))))))) (and_second (P (the_word Et)) (P (the_word Ou) && (P (the_word Non) && (P opening && (P closing && (P comma && (P plus && (P slash && (P equals && (P stop))))))))) (and_second (P (the_word Hors)) (P (the_word Et) && (P (the_word Ou) && (P (the_word Non) && (P opening && (P closing && (P comma && (P plus && (P slash && (P equals && (P stop)))))))))) (and_second (P (the_word Dans)) (P (the_word Hors) && (P (the_word Et) && (P (the_word Ou) && (P (the_word Non) && (P opening && (P closing && (P comma && (P plus && (P slash && (P equals && (P stop))))))))))) (and_second (P (the_word Fin)) (P (the_word Dans) && (P (the_word Hors) && (P (the_word Et) && (P (the_word Ou) && (P (the_word Non) && (P opening && (P closing && (P comma && (P plus && (P slash && (P equals && (P stop)))))))))))) (and_second (P (the_word Graphe)) (P (the_word Fin) && (P (the_word Dans) && (P (the_word Hors) && (P (the_word Et) && (P (the_word Ou) && (P (the_word Non) && (P opening && (P closing && (P comma && (P plus && (P slash && (P equals && (P stop))))))))))))) (and_second (P (the_word Systeme)) (P (the_word Graphe) && (P (the_word Fin) && (P (the_word Dans) && (P (the_word Hors) && (P (the_word Et) && (P (the_word Ou) && (P (the_word Non) && (P opening && (P closing && (P comma && (P plus && (P slash && (P equals && (P stop)))))))))))))) (and_second (P a_node_mark) (P (the_word Systeme) && (P (the_word Graphe) && (P (the_word Fin) && (P (the_word Dans) && (P (the_word Hors) && (P (the_word Et) && (P (the_word Ou) && (P (the_word Non) && (P opening && (P closing && (P comma && (P plus && (P slash && (P equals && (P stop))))))))))))))) (and_second (P a_forest_variable) (P a_node_mark && (P (the_word Systeme) && (P (the_word Graphe) && (P (the_word Fin) && (P (the_word Dans) && (P (the_word Hors) && (P (the_word Et) && (P (the_word Ou) && (P (the_word Non) && (P opening && (P closing && (P comma && (P plus && (P slash && (P equals && (P stop)))))))))))))))) (and_second (P a_tree_variable) (P a_forest_variable && (P a_node_mark && (P (the_word Systeme) && (P (the_word Graphe) && (P (the_word Fin) && (P (the_word Dans) && (P (the_word Hors) && (P (the_word Et) && (P (the_word Ou) && (P (the_word Non) && (P opening && (P closing && (P comma && (P plus && (P slash && (P equals && (P stop))))))))))))))))) (and_second (P a_label_variable) (P a_tree_variable && (P a_forest_variable && (P a_node_mark && (P (the_word Systeme) && (P (the_word Graphe) && (P (the_word Fin) && (P (the_word Dans) && (P (the_word Hors) && (P (the_word Et) && (P (the_word Ou) && (P (the_word Non) && (P opening && (P closing && (P comma && (P plus && (P slash && (P equals && (P stop)))))))))))))))))) (and_second (P a_label) (P a_label_variable && (P a_tree_variable && (P a_forest_variable && (P a_node_mark && (P (the_word Systeme) && (P (the_word Graphe) && (P (the_word Fin) && (P (the_word Dans) && (P (the_word Hors) && (P (the_word Et) && (P (the_word Ou) && (P (the_word Non) && (P opening && (P closing && (P comma && (P plus && (P slash && (P equals && (P stop))))))))))))))))))) e)))))))))))))))))
-every_is P e equals = and_first (P equals) (P stop) (and_second (P slash) (P equals && (P stop)) (and_second (P plus) (P slash && (P equals && (P stop))) (and_second (P comma) (P plus && (P slash && (P equals && (P stop)))) (and_second (P closing) (P comma && (P plus && (P slash && (P equals && (P stop))))) (and_second (P opening) (P closing && (P comma && (P plus && (P slash && (P equals && (P stop)))))) (and_second (P (the_word Non)) (P opening && (P closing && (P comma && (P plus && (P slash && (P equals && (P stop))))))) (and_second (P (the_word Ou)) (P (the_word Non) && (P opening && (P closing && (P comma && (P plus && (P slash && (P equals && (P stop)))))))) (and_second (P (the_word Et)) (P (the_word Ou) && (P (the_word Non) && (P opening && (P closing && (P comma && (P plus && (P slash && (P equals && (P stop))))))))) (and_second (P (the_word Hors)) (P (the_word Et) && (P (the_word Ou) && (P (the_word Non) && (P opening && (P closing && (P comma && (P plus && (P slash && (P equals && (P stop)))))))))) (and_second (P (the_word Dans)) (P (the_word Hors) && (P (the_word Et) && (P (the_word Ou) && (P (the_word Non) && (P opening && (P closing && (P comma && (P plus && (P slash && (P equals && (P stop))))))))))) (and_second (P (the_word Fin)) (P (the_word Dans) && (P (the_word Hors) && (P (the_word Et) && (P (the_word Ou) && (P (the_word Non) && (P opening && (P closing && (P comma && (P plus && (P slash && (P equals && (P stop)))))))))))) (and_second (P (the_word Graphe)) (P (the_word Fin) && (P (the_word Dans) && (P (the_word Hors) && (P (the_word Et) && (P (the_word Ou) && (P (the_word Non) && (P opening && (P closing && (P comma && (P plus && (P slash && (P equals && (P stop))))))))))))) (and_second (P (the_word Systeme)) (P (the_word Graphe) && (P (the_word Fin) && (P (the_word Dans) && (P (the_word Hors) && (P (the_word Et) && (P (the_word Ou) && (P (the_word Non) && (P opening && (P closing && (P comma && (P plus && (P slash && (P equals && (P stop)))))))))))))) (and_second (P a_node_mark) (P (the_word Systeme) && (P (the_word Graphe) && (P (the_word Fin) && (P (the_word Dans) && (P (the_word Hors) && (P (the_word Et) && (P (the_word Ou) && (P (the_word Non) && (P opening && (P closing && (P comma && (P plus && (P slash && (P equals && (P stop))))))))))))))) (and_second (P a_forest_variable) (P a_node_mark && (P (the_word Systeme) && (P (the_word Graphe) && (P (the_word Fin) && (P (the_word Dans) && (P (the_word Hors) && (P (the_word Et) && (P (the_word Ou) && (P (the_word Non) && (P opening && (P closing && (P comma && (P plus && (P slash && (P equals && (P stop)))))))))))))))) (and_second (P a_tree_variable) (P a_forest_variable && (P a_node_mark && (P (the_word Systeme) && (P (the_word Graphe) && (P (the_word Fin) && (P (the_word Dans) && (P (the_word Hors) && (P (the_word Et) && (P (the_word Ou) && (P (the_word Non) && (P opening && (P closing && (P comma && (P plus && (P slash && (P equals && (P stop))))))))))))))))) (and_second (P a_label_variable) (P a_tree_variable && (P a_forest_variable && (P a_node_mark && (P (the_word Systeme) && (P (the_word Graphe) && (P (the_word Fin) && (P (the_word Dans) && (P (the_word Hors) && (P (the_word Et) && (P (the_word Ou) && (P (the_word Non) && (P opening && (P closing && (P comma && (P plus && (P slash && (P equals && (P stop)))))))))))))))))) (and_second (P a_label) (P a_label_variable && (P a_tree_variable && (P a_forest_variable && (P a_node_mark && (P (the_word Systeme) && (P (the_word Graphe) && (P (the_word Fin) && (P (the_word Dans) && (P (the_word Hors) && (P (the_word Et) && (P (the_word Ou) && (P (the_word Non) && (P opening && (P closing && (P comma && (P plus && (P slash && (P equals && (P stop))))))))))))))))))) e))))))))))))))))))
-every_is P e stop = and_second (P equals) (P stop) (and_second (P slash) (P equals && (P stop)) (and_second (P plus) (P slash && (P equals && (P stop))) (and_second (P comma) (P plus && (P slash && (P equals && (P stop)))) (and_second (P closing) (P comma && (P plus && (P slash && (P equals && (P stop))))) (and_second (P opening) (P closing && (P comma && (P plus && (P slash && (P equals && (P stop)))))) (and_second (P (the_word Non)) (P opening && (P closing && (P comma && (P plus && (P slash && (P equals && (P stop))))))) (and_second (P (the_word Ou)) (P (the_word Non) && (P opening && (P closing && (P comma && (P plus && (P slash && (P equals && (P stop)))))))) (and_second (P (the_word Et)) (P (the_word Ou) && (P (the_word Non) && (P opening && (P closing && (P comma && (P plus && (P slash && (P equals && (P stop))))))))) (and_second (P (the_word Hors)) (P (the_word Et) && (P (the_word Ou) && (P (the_word Non) && (P opening && (P closing && (P comma && (P plus && (P slash && (P equals && (P stop)))))))))) (and_second (P (the_word Dans)) (P (the_word Hors) && (P (the_word Et) && (P (the_word Ou) && (P (the_word Non) && (P opening && (P closing && (P comma && (P plus && (P slash && (P equals && (P stop))))))))))) (and_second (P (the_word Fin)) (P (the_word Dans) && (P (the_word Hors) && (P (the_word Et) && (P (the_word Ou) && (P (the_word Non) && (P opening && (P closing && (P comma && (P plus && (P slash && (P equals && (P stop)))))))))))) (and_second (P (the_word Graphe)) (P (the_word Fin) && (P (the_word Dans) && (P (the_word Hors) && (P (the_word Et) && (P (the_word Ou) && (P (the_word Non) && (P opening && (P closing && (P comma && (P plus && (P slash && (P equals && (P stop))))))))))))) (and_second (P (the_word Systeme)) (P (the_word Graphe) && (P (the_word Fin) && (P (the_word Dans) && (P (the_word Hors) && (P (the_word Et) && (P (the_word Ou) && (P (the_word Non) && (P opening && (P closing && (P comma && (P plus && (P slash && (P equals && (P stop)))))))))))))) (and_second (P a_node_mark) (P (the_word Systeme) && (P (the_word Graphe) && (P (the_word Fin) && (P (the_word Dans) && (P (the_word Hors) && (P (the_word Et) && (P (the_word Ou) && (P (the_word Non) && (P opening && (P closing && (P comma && (P plus && (P slash && (P equals && (P stop))))))))))))))) (and_second (P a_forest_variable) (P a_node_mark && (P (the_word Systeme) && (P (the_word Graphe) && (P (the_word Fin) && (P (the_word Dans) && (P (the_word Hors) && (P (the_word Et) && (P (the_word Ou) && (P (the_word Non) && (P opening && (P closing && (P comma && (P plus && (P slash && (P equals && (P stop)))))))))))))))) (and_second (P a_tree_variable) (P a_forest_variable && (P a_node_mark && (P (the_word Systeme) && (P (the_word Graphe) && (P (the_word Fin) && (P (the_word Dans) && (P (the_word Hors) && (P (the_word Et) && (P (the_word Ou) && (P (the_word Non) && (P opening && (P closing && (P comma && (P plus && (P slash && (P equals && (P stop))))))))))))))))) (and_second (P a_label_variable) (P a_tree_variable && (P a_forest_variable && (P a_node_mark && (P (the_word Systeme) && (P (the_word Graphe) && (P (the_word Fin) && (P (the_word Dans) && (P (the_word Hors) && (P (the_word Et) && (P (the_word Ou) && (P (the_word Non) && (P opening && (P closing && (P comma && (P plus && (P slash && (P equals && (P stop)))))))))))))))))) (and_second (P a_label) (P a_label_variable && (P a_tree_variable && (P a_forest_variable && (P a_node_mark && (P (the_word Systeme) && (P (the_word Graphe) && (P (the_word Fin) && (P (the_word Dans) && (P (the_word Hors) && (P (the_word Et) && (P (the_word Ou) && (P (the_word Non) && (P opening && (P closing && (P comma && (P plus && (P slash && (P equals && (P stop))))))))))))))))))) e))))))))))))))))))
 
 -- one test implies the other, and the two are apart
 abbrev implies : (Sort → Bool) → (Sort → Bool) → Bool

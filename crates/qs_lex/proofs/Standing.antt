@@ -3,7 +3,7 @@ use Rattle.std.proofs.Common.{◌≡◌, ℕ, ◌+◌, ◌-◌, ◌<◌, ◌≤�
 use Rattle.std.specs.Prelude.{slice_range}
 use Rattle.std.proofs.lemmas.List.{take_at, drop_at, drop-drop}
 use Rattle.qs_lex.specs.Spelling.{Spells, EndsBefore}
-use Rattle.qs_lex.specs.Tokens.{StandsIn, Reads, next_place}
+use Rattle.qs_lex.specs.Tokens.{version_of, StandsIn, Reads, next_place}
 use Rattle.qs_lex.specs.Refusals.{IsFaulty}
 use Rattle.qs_lex.specs.working.Scan.{Found, scan}
 use Rattle.qs_lex.specs.declared.token.Token.{Token}
@@ -28,9 +28,9 @@ some_spelled Equals bytes s = let e = ap length s in omega arith
 some_spelled Stop bytes s = let e = ap length s in omega arith
 
 -- what `scan` finds stands there
-pub stands : (text : List ℕ) (t : Token) (n : ℕ) → t.from ≤ length text → scan (drop t.from text) ≡ Ok (t.kind, n) → t.to ≡ t.from + n → StandsIn text t
+pub stands : (text : List ℕ) (t : Token) (n : ℕ) → t.from ≤ length text → scan (version_of text) (drop t.from text) ≡ Ok (t.kind, n) → t.to ≡ t.from + n → StandsIn text t
 stands text t n within e to_is =
-    let front = scan_is (drop t.from text) t.kind n e in
+    let front = scan_is (version_of text) (drop t.from text) t.kind n e in
     let size : t.to - t.from ≡ length front.spelling = omega (arith, front.length_is) in
     let part : slice_range text t.from t.to ≡ front.spelling = ap (take (t.to - t.from)) front.whole ∙ take_at front.spelling front.rest (t.to - t.from) (sym size) in
     let behind : drop t.to text ≡ front.rest =
@@ -38,6 +38,7 @@ stands text t n within e to_is =
     let P : List ℕ → Type 0 = Spells t.kind in
     let Q : List ℕ → Type 0 = EndsBefore t.kind in
     record {
+      known = front.known;
       within = omega (arith, ap length front.whole, length-append front.spelling front.rest, length-drop t.from text, front.length_is);
       spelled = subst P (sym part) front.spelled;
       ended = subst Q (sym behind) front.ended;
@@ -49,19 +50,19 @@ has_byte {text} {t} s =
     let some = some_spelled t.kind (slice_range text t.from t.to) s.spelled in
     omega (arith, length-take (t.to - t.from) (drop t.from text))
 
-pub found_there : {text : List ℕ} {t : Token} → StandsIn text t → scan (drop t.from text) ≡ Ok (t.kind, t.to - t.from)
+pub found_there : {text : List ℕ} {t : Token} → StandsIn text t → scan (version_of text) (drop t.from text) ≡ Ok (t.kind, t.to - t.from)
 found_there {text} {t} s =
     let some = has_byte s in
     let size : length (slice_range text t.from t.to) ≡ t.to - t.from = omega (arith, length-take (t.to - t.from) (drop t.from text), length-drop t.from text, s.within) in
     let behind : drop (t.to - t.from) (drop t.from text) ≡ drop t.to text = drop-drop (t.to - t.from) t.from text ∙ ap (λ k. drop k text) (omega arith) in
-    ap scan (sym (take-append-drop (t.to - t.from) (drop t.from text)) ∙ ap (λ xs. slice_range text t.from t.to ++ xs) behind)
-    ∙ scan_finds t.kind (slice_range text t.from t.to) (drop t.to text) s.spelled s.ended
+    ap (scan (version_of text)) (sym (take-append-drop (t.to - t.from) (drop t.from text)) ∙ ap (λ xs. slice_range text t.from t.to ++ xs) behind)
+    ∙ scan_finds (version_of text) t.kind (slice_range text t.from t.to) (drop t.to text) s.known s.spelled s.ended
     ∙ ap (λ k. Ok (t.kind, k)) size
 
 -- one token at most stands at a place
 pub one_token : {text : List ℕ} {t u : Token} → t.from ≡ u.from → StandsIn text t → StandsIn text u → t ≡ u
 one_token {text} {t} {u} e s r =
-    let same : ◌≡◌ {A = Found} (Ok (t.kind, t.to - t.from)) (Ok (u.kind, u.to - u.from)) = sym (found_there s) ∙ ap (λ k. scan (drop k text)) e ∙ found_there r in
+    let same : ◌≡◌ {A = Found} (Ok (t.kind, t.to - t.from)) (Ok (u.kind, u.to - u.from)) = sym (found_there s) ∙ ap (λ k. scan (version_of text) (drop k text)) e ∙ found_there r in
     let pair : ◌≡◌ {A = Kind × ℕ} (t.kind, t.to - t.from) (u.kind, u.to - u.from) = cc in
     let kinds : t.kind ≡ u.kind = ap (λ x. x.0) pair in
     let sizes : t.to - t.from ≡ u.to - u.from = ap (λ x. x.1) pair in
@@ -69,10 +70,10 @@ one_token {text} {t} {u} e s r =
     λ i. record { kind = kinds i; from = e i; to = ends i }
 
 -- where `scan` finds none, none stands
-pub none_there : (text : List ℕ) (place : ℕ) (c : Cause) → place < length text → scan (drop place text) ≡ Err c → IsFaulty text place
+pub none_there : (text : List ℕ) (place : ℕ) (c : Cause) → place < length text → scan (version_of text) (drop place text) ≡ Err c → IsFaulty text place
 none_there text place c within e = record {
   within = within;
-  no_token = λ t from s. let no : ◌≡◌ {A = Found} (Err c) (Ok (t.kind, t.to - t.from)) = sym e ∙ ap (λ k. scan (drop k text)) (sym from) ∙ found_there s in cc;
+  no_token = λ t from s. let no : ◌≡◌ {A = Found} (Err c) (Ok (t.kind, t.to - t.from)) = sym e ∙ ap (λ k. scan (version_of text) (drop k text)) (sym from) ∙ found_there s in cc;
 }
 
 -- one more token

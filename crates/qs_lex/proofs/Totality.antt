@@ -3,7 +3,7 @@ use Rattle.std.proofs.Common.{◌≡◌, ℕ, zero, suc, ◌+◌, ◌<◌, ◌�
 use Rattle.std.specs.Prelude.{◌⊎◌, slice_index}
 use Rattle.std.proofs.lemmas.Bool.{cases_lt}
 use Rattle.qs_lex.specs.Characters.{is_space}
-use Rattle.qs_lex.specs.Tokens.{blank_len, comment_len, next_place, StandsIn, Reads, AreTokensOf}
+use Rattle.qs_lex.specs.Tokens.{version_of, blank_len, comment_len, next_place, StandsIn, Reads, AreTokensOf}
 use Rattle.qs_lex.specs.Refusals.{IsFaulty, IsFirstFault, cause_at}
 use Rattle.qs_lex.specs.working.Scan.{Found, scan}
 use Rattle.qs_lex.specs.declared.token.Token.{Token}
@@ -34,7 +34,7 @@ behind text at t from s rest =
     rest
 
 -- by what `scan` finds at the next place
-by_scan : (text : List ℕ) (at : ℕ) (found : Found) → scan (drop (next_place text at) text) ≡ found → next_place text at < length text → ((to : ℕ) → at < to → to ≤ length text → ReadsOn text to) → ReadsOn text at
+by_scan : (text : List ℕ) (at : ℕ) (found : Found) → scan (version_of text) (drop (next_place text at) text) ≡ found → next_place text at < length text → ((to : ℕ) → at < to → to ≤ length text → ReadsOn text to) → ReadsOn text at
 by_scan text at (Err cause) e within more = inr ([], next_place text at, refl, none_there text (next_place text at) cause within e)
 by_scan text at (Ok x) e within more =
     let t : Token = record { kind = x.0; from = next_place text at; to = next_place text at + x.1 } in
@@ -48,7 +48,7 @@ reads_on zero text at within enough =
 reads_on (suc fuel) text at within enough =
     let blank = (blanks_le (drop at text)).0 in
     ⊎_elim
-    (λ inside. by_scan text at (scan (drop (next_place text at) text)) refl inside (λ to further short. reads_on fuel text to short (omega arith)))
+    (λ inside. by_scan text at (scan (version_of text) (drop (next_place text at) text)) refl inside (λ to further short. reads_on fuel text to short (omega arith)))
     (λ past. inl ([], omega (arith, length-drop at text)))
     (cases_lt (next_place text at) (length text))
 

@@ -1,7 +1,8 @@
 -- Sorts told apart, and the sorts that the next token isn't of.
 use Rattle.std.specs.Prelude.{◌≡◌, ℕ, Bool, false, ◌==◌, List, [], ◌∷◌}
 use Rattle.qs_lex.specs.declared.token.Word.{Word}
-use Rattle.qs_lex.specs.declared.token.Word.TheVariants.{Systeme, Graphe, Fin, Dans, Hors, Et, Ou, Non}
+use Rattle.qs_lex.specs.declared.token.Word.TheVariants.{Systeme, Graphe, Fin, Dans, Hors, Et, Ou, Non, Version, Egal}
+use Rattle.qs_lex.specs.declared.token.Word.TheVariants.{Unique}
 use Rattle.qs_lex.specs.declared.token.Token.{Token}
 use Rattle.qs_lex.specs.Grammar.{Sort, a_label, a_label_variable, a_tree_variable, a_forest_variable, a_node_mark}
 use Rattle.qs_lex.specs.Grammar.{the_word, opening, closing, comma, plus, slash, equals, stop, sort_of}
@@ -16,6 +17,9 @@ number_of_word Hors = 16
 number_of_word Et = 17
 number_of_word Ou = 18
 number_of_word Non = 19
+number_of_word Version = 20
+number_of_word Egal = 21
+number_of_word Unique = 22
 
 abbrev pub number_of : Sort → ℕ
 number_of a_label = 0

@@ -5,7 +5,8 @@ use Rattle.std.specs.Prelude.{if◌then◌else◌, codes, decimal, not, true}
 use Rattle.std.specs.Char.{is_ascii_digit}
 use Rattle.qs_lex.specs.Characters.{quote, star, dash, is_label, is_variable_letter, ends_line, BeginsWithNo, Each}
 use Rattle.qs_lex.specs.declared.token.Word.{Word}
-use Rattle.qs_lex.specs.declared.token.Word.TheVariants.{Systeme, Graphe, Fin, Dans, Hors, Et, Ou, Non}
+use Rattle.qs_lex.specs.declared.token.Word.TheVariants.{Systeme, Graphe, Fin, Dans, Hors, Et, Ou, Non, Version, Egal}
+use Rattle.qs_lex.specs.declared.token.Word.TheVariants.{Unique}
 use Rattle.qs_lex.specs.declared.token.Kind.{Kind}
 use Rattle.qs_lex.specs.declared.token.Kind.TheVariants.{Bare, Quoted, Variable, Node, Word as a_word, Opening, Closing}
 use Rattle.qs_lex.specs.declared.token.Kind.TheVariants.{Comma, Plus, Slash, Equals, Stop}
@@ -20,6 +21,16 @@ name_of Hors = codes "HORS"
 name_of Et = codes "ET"
 name_of Ou = codes "OU"
 name_of Non = codes "NON"
+name_of Version = codes "VERSION"
+name_of Egal = codes "EGAL"
+name_of Unique = codes "UNIQUE"
+
+-- the first version whose texts have the word
+abbrev pub since : Word → ℕ
+since Version = 2
+since Egal = 2
+since Unique = 2
+since _ = 1
 
 -- the text with two quotes for each quote
 abbrev pub doubled : List ℕ → List ℕ
@@ -53,6 +64,11 @@ Spells Plus bytes = bytes ≡ codes "+"
 Spells Slash bytes = bytes ≡ codes "/"
 Spells Equals bytes = bytes ≡ codes "=="
 Spells Stop bytes = bytes ≡ codes "."
+
+-- texts of this version have tokens of this kind: a word in its first version and from then on, the others in each
+abbrev pub IsInVersion : ℕ → Kind → Type 0
+IsInVersion version (a_word word) = since word ≤ version
+IsInVersion version _ = Unit {0}
 
 -- a token of this kind ends where this follows. A bare label is the longest run of label characters, and none where a
 -- star follows. A quote that a quote follows closes no label. The digits of a variable are the longest run of digits.

@@ -1,8 +1,10 @@
 -- The tokens of a text.
 use Rattle.std.specs.Prelude.{◌≡◌, ℕ, suc, ◌+◌, ◌<◌, ◌≤◌, ◌==◌, List, [], ◌∷◌, length, drop, slice_range, slice_get}
 use Rattle.std.specs.Prelude.{Some, ◌⊎◌, if◌then◌else◌, IsCharBoundary}
+use Rattle.std.specs.List.{starts_with}
 use Rattle.qs_lex.specs.Characters.{line_feed, number_sign, is_space}
-use Rattle.qs_lex.specs.Spelling.{Spells, EndsBefore, IsLabelText}
+use Rattle.qs_lex.specs.Spelling.{name_of, between_dashes, Spells, IsInVersion, EndsBefore, IsLabelText}
+use Rattle.qs_lex.specs.declared.token.Word.TheVariants.{Version}
 use Rattle.qs_lex.specs.declared.token.Kind.TheVariants.{Bare, Quoted}
 use Rattle.qs_lex.specs.declared.token.Token.{Token}
 
@@ -21,12 +23,19 @@ abbrev mutual
 abbrev pub next_place : List ℕ → ℕ → ℕ
 next_place text at = at + blank_len (drop at text)
 
+-- the version of a text: 2 where, behind white space and comments, it begins with `-VERSION-`, otherwise 1
+abbrev pub version_of : List ℕ → ℕ
+version_of text =
+    if starts_with (λ b c. b == c) (drop (blank_len text) text) (between_dashes (name_of Version)) then 2 else 1
+
 -- the bytes of the text that the token takes
 abbrev pub bytes_of : List ℕ → Token → List ℕ
 bytes_of text t = slice_range text t.from t.to
 
--- the token stands in the text: its bytes are written as its kind is, and what follows lets it end
+-- the token stands in the text: texts of its version have such tokens, its bytes are written as its kind is, and what
+-- follows lets it end
 pub record StandsIn (text : List ℕ) (t : Token) : Type 0 where
+  pub known : IsInVersion (version_of text) t.kind
   pub within : t.to ≤ length text
   pub spelled : Spells t.kind (bytes_of text t)
   pub ended : EndsBefore t.kind (drop t.to text)

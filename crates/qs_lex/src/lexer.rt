@@ -3,7 +3,7 @@
 ghost use Rattle.std.specs.Prelude.{◌≡◌, ◌<◌, ◌≤◌, ℕ, List, length, IfOk, IfErr, IsErr, slice_index};
 ghost use Rattle.qs_lex.specs.declared.token.Token.{Token};
 ghost use Rattle.qs_lex.specs.declared.refusal.Cause.{Cause};
-ghost use Rattle.qs_lex.specs.Tokens.{StandsIn, AreTokensOf, AreSpansFrom};
+ghost use Rattle.qs_lex.specs.Tokens.{version_of, StandsIn, AreTokensOf, AreSpansFrom};
 ghost use Rattle.qs_lex.specs.Refusals.{IsFaulty, cause_at, EndsFor, IsFirstFault};
 
 use crate::characters::blank_len;
@@ -12,8 +12,21 @@ use crate::scanner::scan;
 use crate::token::Token;
 use std::alloc::Global;
 
-/// The token that stands at a place, or the cause why none does.
-fn token_at(bytes: &[u8], at: usize) -> Result<Token, Cause>
+/// The version of a text: 2 where, behind white space and comments, it begins with `-VERSION-`; otherwise 1. It takes no
+/// memory.
+pub fn version(bytes: &[u8]) -> u8
+    ensures { result ≡ version_of bytes.now }
+{
+    if bytes[blank_len(bytes)..].starts_with(b"-VERSION-") {
+        2
+    } else {
+        1
+    }
+}
+
+/// The token that stands at a place of a text of this version, or the cause why none does.
+fn token_at(bytes: &[u8], version: u8, at: usize) -> Result<Token, Cause>
+    requires of_text { version ≡ version_of bytes.now }
     requires inside { at < length bytes.now }
     requires short { length bytes.now ≤ 4194304 }
 
@@ -22,7 +35,7 @@ fn token_at(bytes: &[u8], at: usize) -> Result<Token, Cause>
     ensures within { IfOk result (λ t. t.to ≤ length bytes.now) }
     ensures fault { IfErr result (λ cause. IsFaulty bytes.now at × (cause ≡ cause_at (slice_index bytes.now at))) }
 {
-    match scan(&bytes[at..]) {
+    match scan(&bytes[at..], version) {
         Ok((kind, len)) => Ok(Token {
             kind,
             from: at as u32,
@@ -50,10 +63,11 @@ pub fn tokens(alloc: Global, text: &str) -> Result<Vec<Token>, LexEnd>
     ensures faultless { (ts : List Token) → AreTokensOf text.now ts → IfErr result (λ end. end ≡ LexEnd.Memory) }
 {
     let bytes = text.as_bytes();
+    let version = version(bytes);
     let mut tokens = Vec::new(alloc);
     let mut at = blank_len(bytes);
     while at < bytes.len() {
-        match token_at(bytes, at) {
+        match token_at(bytes, version, at) {
             Ok(token) => {
                 tokens.push(token)?;
                 let to = token.to as usize;

@@ -16,9 +16,12 @@
 //! | `-` | `-`, a number from 1 to 999,999,999 without leading zero, `-`:
 //! a node mark | `BadWord` where it is neither this nor a word |
 //! | `-` | `-SYSTEME-`, `-GRAPHE-`, `-FIN-`, `-DANS-`, `-HORS-`, `-ET-`, `-OU-` or `-NON-`: a word | |
+//! | `-` | in texts of version 2, `-VERSION-`, `-EGAL-` or `-UNIQUE-`: a word | |
 //! | `=` | `==` | `BadCharacter` where no second `=` follows |
 //! | `(` `)` `,` `+` `.` `/` | itself | |
 //! | any other | | `BadCharacter` |
+//!
+//! The version of a text is 2 where, behind white space and comments, it begins with `-VERSION-`; otherwise it is 1.
 //!
 //! The language is Colmerauer's of 1970; this spelling of it in UTF-8 is this project's own.
 #![tactic(auto)]
@@ -34,7 +37,7 @@ mod scanner;
 mod token;
 
 pub use labels::label_text;
-pub use lexer::tokens;
+pub use lexer::{tokens, version};
 pub use nesting::too_deep;
 pub use places::place;
 pub use refusal::{Cause, LexEnd, Refusal};

@@ -91,16 +91,16 @@ fn quote_len(bytes: &[u8]) -> Option<usize>
     }
 }
 
-/// The node mark or the word whose first dash stands before these bytes.
-fn mark(bytes: &[u8]) -> Result<(Kind, usize), Cause>
-    ensures { result ≡ mark_at bytes.now }
+/// The node mark or the word, in a text of this version, whose first dash stands before these bytes.
+fn mark(bytes: &[u8], version: u8) -> Result<(Kind, usize), Cause>
+    ensures { result ≡ mark_at version bytes.now }
 {
     let len = capital_or_digit_len(bytes);
     if len == bytes.len() || bytes[len] != b'-' {
         return Err(Cause::BadWord);
     }
     let name = &bytes[..len];
-    if let Some(word) = Word::named(name) {
+    if let Some(word) = Word::named(name, version) {
         return Ok((Kind::Word(word), len + 2));
     }
     match number(name, 999_999_999) {
@@ -124,9 +124,10 @@ fn punctuation(byte: u8) -> Result<(Kind, usize), Cause>
     }
 }
 
-/// The token at the front of the bytes, and how many of them it takes, or the cause why none stands there.
-pub fn scan(bytes: &[u8]) -> Result<(Kind, usize), Cause>
-    ensures { result ≡ scan bytes.now }
+/// The token at the front of the bytes, in a text of this version, and how many of them it takes, or the cause why none
+/// stands there.
+pub fn scan(bytes: &[u8], version: u8) -> Result<(Kind, usize), Cause>
+    ensures { result ≡ scan version bytes.now }
 {
     match bytes {
         [] => Err(Cause::BadCharacter),
@@ -134,7 +135,7 @@ pub fn scan(bytes: &[u8]) -> Result<(Kind, usize), Cause>
             Some(len) => Ok((Kind::Quoted, len + 1)),
             None => Err(Cause::OpenQuote),
         },
-        [b'-', rest @ ..] => mark(rest),
+        [b'-', rest @ ..] => mark(rest, version),
         [b'=', b'=', ..] => Ok((Kind::Equals, 2)),
         [first, ..] if is_label(*first) => label(bytes),
         [first, ..] => punctuation(*first),

@@ -1,7 +1,8 @@
 //! Tokens, and the words of the language.
 
 /// A word of the language, written between dashes as `-SYSTEME-`. Words head the parts of a deck (`SYSTEME`, `GRAPHE`,
-/// `FIN`) and join conditions (`DANS`, `HORS`, `ET`, `OU`, `NON`).
+/// `FIN`), compare lists (`DANS`, `HORS`) and join conditions (`ET`, `OU`, `NON`). Texts of version 2 have three more:
+/// one heads the text (`VERSION`), one compares lists (`EGAL`), and one marks a grammar (`UNIQUE`).
 #[derive(Clone, Copy, Debug, PartialEq, Eq)]
 pub enum Word {
     Systeme,
@@ -12,14 +13,17 @@ pub enum Word {
     Et,
     Ou,
     Non,
+    Version,
+    Egal,
+    Unique,
 }
 
 impl Word {
     ghost use Rattle.std.specs.Prelude.{◌≡◌};
-    ghost use Rattle.qs_lex.specs.Spelling.{name_of};
+    ghost use Rattle.qs_lex.specs.Spelling.{name_of, since};
     ghost use Rattle.qs_lex.specs.working.Scan.{word_of};
 
-    const ALL: [Word; 8] = [
+    const ALL: [Word; 11] = [
         Word::Systeme,
         Word::Graphe,
         Word::Fin,
@@ -28,6 +32,9 @@ impl Word {
         Word::Et,
         Word::Ou,
         Word::Non,
+        Word::Version,
+        Word::Egal,
+        Word::Unique,
     ];
 
     /// The name of the word, without its dashes.
@@ -43,14 +50,30 @@ impl Word {
             Word::Et => b"ET",
             Word::Ou => b"OU",
             Word::Non => b"NON",
+            Word::Version => b"VERSION",
+            Word::Egal => b"EGAL",
+            Word::Unique => b"UNIQUE",
         }
     }
 
-    /// The word that has this name.
-    pub(crate) fn named(name: &[u8]) -> Option<Word>
-        ensures { result ≡ word_of name.now }
+    /// The first version whose texts have the word.
+    fn since(self) -> u8
+        ensures { result ≡ since self }
     {
-        Word::ALL.iter().copied().find(|word| word.name() == name)
+        match self {
+            Word::Version | Word::Egal | Word::Unique => 2,
+            _ => 1,
+        }
+    }
+
+    /// The word of texts of this version that has this name.
+    pub(crate) fn named(name: &[u8], version: u8) -> Option<Word>
+        ensures { result ≡ word_of version name.now }
+    {
+        Word::ALL
+            .iter()
+            .copied()
+            .find(|word| word.name() == name && word.since() <= version)
     }
 }
 

@@ -7,9 +7,10 @@ use Rattle.std.specs.List.{prefix_len}
 use Rattle.std.specs.Char.{is_ascii_digit}
 use Rattle.qs_lex.specs.Characters.{quote, star, dash, is_label, is_variable_letter, ends_line}
 use Rattle.qs_lex.specs.working.Characters.{is_capital_or_digit}
-use Rattle.qs_lex.specs.Spelling.{name_of}
+use Rattle.qs_lex.specs.Spelling.{name_of, since}
 use Rattle.qs_lex.specs.declared.token.Word.{Word}
-use Rattle.qs_lex.specs.declared.token.Word.TheVariants.{Systeme, Graphe, Fin, Dans, Hors, Et, Ou, Non}
+use Rattle.qs_lex.specs.declared.token.Word.TheVariants.{Systeme, Graphe, Fin, Dans, Hors, Et, Ou, Non, Version, Egal}
+use Rattle.qs_lex.specs.declared.token.Word.TheVariants.{Unique}
 use Rattle.qs_lex.specs.declared.token.Kind.{Kind}
 use Rattle.qs_lex.specs.declared.token.Kind.TheVariants.{Bare, Quoted, Variable, Node, Word as a_word, Opening, Closing}
 use Rattle.qs_lex.specs.declared.token.Kind.TheVariants.{Comma, Plus, Slash, Equals, Stop}
@@ -39,10 +40,11 @@ abbrev mutual
   behind_quote (b ∷ bs) = if b == quote then option_map suc (quote_len bs) else Some 0
 
 abbrev pub all_words : List Word
-all_words = Systeme ∷ Graphe ∷ Fin ∷ Dans ∷ Hors ∷ Et ∷ Ou ∷ Non ∷ []
+all_words = Systeme ∷ Graphe ∷ Fin ∷ Dans ∷ Hors ∷ Et ∷ Ou ∷ Non ∷ Version ∷ Egal ∷ Unique ∷ []
 
-abbrev pub word_of : List ℕ → Option Word
-word_of name = find (λ w. bytes_eq (name_of w) name) all_words
+-- the word of texts of this version that has this name
+abbrev pub word_of : ℕ → List ℕ → Option Word
+word_of version name = find (λ w. bytes_eq (name_of w) name && nat_le (since w) version) all_words
 
 abbrev pub numbered : ℕ → ℕ → Option ℕ → Found
 numbered letter len (Some n) = Ok (Variable letter n, len)
@@ -75,11 +77,11 @@ abbrev pub named : List ℕ → Option Word → Found
 named name (Some word) = Ok (a_word word, length name + 2)
 named name None = node_of (length name + 2) (number_after 999999999 0 name)
 
--- a node mark or a word, behind its first dash
-abbrev pub mark_at : List ℕ → Found
-mark_at bytes =
+-- a node mark or a word, behind its first dash, in a text of this version
+abbrev pub mark_at : ℕ → List ℕ → Found
+mark_at version bytes =
     let name = take_while is_capital_or_digit bytes in
-    if slice_index bytes (length name) == dash then named name (word_of name) else Err BadWord
+    if slice_index bytes (length name) == dash then named name (word_of version name) else Err BadWord
 
 abbrev pub punctuation : ℕ → Found
 punctuation b =
@@ -91,12 +93,12 @@ punctuation b =
     else (if b == 47 then Ok (Slash, 1)
     else Err BadCharacter)))))
 
--- the token at the front
-abbrev pub scan : List ℕ → Found
-scan [] = Err BadCharacter
-scan (b ∷ bs) =
+-- the token at the front, in a text of this version
+abbrev pub scan : ℕ → List ℕ → Found
+scan version [] = Err BadCharacter
+scan version (b ∷ bs) =
     if is_label b then label_at (b ∷ bs)
     else (if b == quote then quoted_of (quote_len bs)
-    else (if b == dash then mark_at bs
+    else (if b == dash then mark_at version bs
     else (if b == 61 then (if slice_index bs 0 == 61 then Ok (Equals, 2) else Err BadCharacter)
     else punctuation b)))

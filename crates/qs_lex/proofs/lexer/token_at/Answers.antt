@@ -1,4 +1,4 @@
-use Rattle.std.proofs.Common.{◌+◌, Ok, Err, arith, refl}
+use Rattle.std.proofs.Common.{◌+◌, Ok, Err, arith, refl, sym, ap, ◌∙◌, drop}
 use Rattle.qs_lex.specs.working.Scan.{scan}
 use Rattle.qs_lex.specs.Tokens.{StandsIn}
 use Rattle.qs_lex.proofs.Lexed.{none_stands, of_rest}
@@ -15,7 +15,8 @@ found_token c = record { kind = c.in-Ok.kind; from = c.args.at; to = c.args.at +
 found : (c : In-Ok) → StandsIn c.args.bytes.now (found_token c)
 found c =
     stands c.args.bytes.now (found_token c) c.in-Ok.len (omega (arith, c.requires.inside))
-    (of_rest scan c.args.bytes.now c.args.at c.scan.result (Ok (c.in-Ok.kind, c.in-Ok.len)) c.scan.ensures c.in-Ok.is) refl
+    (ap (λ v. scan v (drop c.args.at c.args.bytes.now)) (sym c.requires.of_text)
+    ∙ of_rest (scan c.args.version) c.args.bytes.now c.args.at c.scan.result (Ok (c.in-Ok.kind, c.in-Ok.len)) c.scan.ensures c.in-Ok.is) refl
 
 pub overflow_add-result : goal.overflow_add-result
 overflow_add-result c = let s = found c in omega (arith, s.within, c.requires.short)
@@ -34,4 +35,5 @@ returns-in-Ok-clause-within c = (found (goal.at.returns-in-Ok-clause-within c).I
 
 pub returns-in-Err-clause-fault : goal.returns-in-Err-clause-fault
 returns-in-Err-clause-fault c =
-    none_stands c.args.bytes.now c.args.at c.in-Err.cause c.requires.inside (of_rest scan c.args.bytes.now c.args.at c.scan.result (Err c.in-Err.cause) c.scan.ensures c.in-Err.is)
+    none_stands c.args.bytes.now c.args.at c.in-Err.cause c.requires.inside (ap (λ v. scan v (drop c.args.at c.args.bytes.now)) (sym c.requires.of_text)
+    ∙ of_rest (scan c.args.version) c.args.bytes.now c.args.at c.scan.result (Err c.in-Err.cause) c.scan.ensures c.in-Err.is)
