@@ -12,8 +12,8 @@ use crate::scanner::scan;
 use crate::token::Token;
 use std::alloc::Global;
 
-/// The version of a text: 2 where, behind white space and comments, it begins with `-VERSION-`; otherwise 1. It takes no
-/// memory.
+/// The version of a text: 2 where, behind white space and comments, it begins with `-VERSION-`; otherwise 1. It takes
+/// no memory.
 pub fn version(bytes: &[u8]) -> u8
     ensures { result ≡ version_of bytes.now }
 {

@@ -10,7 +10,7 @@ use Rattle.qs_pattern.specs.contracts.variable.Var as var
 use Rattle.qs_pattern.specs.Patterns.{Patterns}
 use Rattle.qs_pattern.specs.Substitutions.{Substitution, variables_of, IsOfClass}
 use Rattle.qs_pattern.specs.Instances.{inst, variables, IsMatch}
-use Rattle.qs_pattern.specs.Conditions.{Comparing, within, outside, Compares, all, any, Condition, Conditions, compared, negated, combined, no_condition, condition_first, Holds, AllHold, SomeHolds, HoldsIfGiven}
+use Rattle.qs_pattern.specs.Conditions.{Comparing, within, outside, same, Compares, all, any, Condition, Conditions, compared, negated, combined, no_condition, condition_first, Holds, AllHold, SomeHolds, HoldsIfGiven}
 use Rattle.qs_tree.proofs.Decisions.{decide_number, decide_at_most, decide_not, decide_both, decide_either, decide_list, decide_member, decide_each, decide_label, decide_tree}
 
 abbrev pub decide_var : (v w : Var) → Dec (v ≡ w)
@@ -93,6 +93,7 @@ decide_match side ts s = all_of (decide_list decide_var (variables_of s) (variab
 abbrev decide_compares : (w : Comparing) (ts us : List Tree) → Dec (Compares w ts us)
 decide_compares within ts us = decide_each (λ t. t ∈ us) (λ t. decide_member decide_tree t us) ts
 decide_compares outside ts us = decide_each (λ t. t ∈ us → ⊥) (λ t. decide_not (decide_member decide_tree t us)) ts
+decide_compares same ts us = decide_trees ts us
 
 abbrev mutual
   decide_holds : (c : Condition) (s : Substitution) → Dec (Holds c s)

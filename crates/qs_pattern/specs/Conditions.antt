@@ -1,19 +1,20 @@
 -- Conditions of rules. (Colmerauer's rules have them; their exact meaning here is this project's own.)
-use Rattle.std.specs.Prelude.{ℕ, ◌+◌, ◌≤◌, ◌⊎◌, List, [], ◌++◌, Option, Some, None}
+use Rattle.std.specs.Prelude.{◌≡◌, ℕ, ◌+◌, ◌≤◌, ◌⊎◌, List, [], ◌++◌, Option, Some, None}
 use Rattle.qs_tree.specs.Lists.{◌∈◌}
 use Rattle.qs_tree.specs.Trees.{Tree}
 use Rattle.qs_pattern.specs.declared.variable.Var.{Var}
-use Rattle.qs_pattern.specs.declared.condition.Cond.{Cond, Within, Outside, Not', All', Any', Row_of-Cond, end_of-Cond}
-use Rattle.qs_pattern.specs.declared.condition.Cond.{more_of-Cond}
+use Rattle.qs_pattern.specs.declared.condition.Cond.{Cond, Within, Outside, Same, Not', All', Any', Row_of-Cond}
+use Rattle.qs_pattern.specs.declared.condition.Cond.{end_of-Cond, more_of-Cond}
 use Rattle.qs_pattern.specs.Patterns.{Patterns, patterns, cells, variables_in, AreInClass}
 use Rattle.qs_pattern.specs.Substitutions.{Substitution}
 use Rattle.qs_pattern.specs.Instances.{inst, IsCovered}
 
--- How two lists of trees are compared: each tree of the first is in the second (`-DANS-`), or none is (`-HORS-`). And
--- how conditions are joined: all of them hold (`-ET-`), or any of them does (`-OU-`).
+-- How two lists of trees are compared: each tree of the first is in the second (`-DANS-`), or none is (`-HORS-`), or
+-- the two are equal (`-EGAL-`). And how conditions are joined: all of them hold (`-ET-`), or any of them does (`-OU-`).
 pub data Comparing : Type 0 where
   within : Comparing
   outside : Comparing
+  same : Comparing
 
 pub data Joining : Type 0 where
   all : Joining
@@ -36,6 +37,7 @@ abbrev mutual
   pub condition_of : Cond → Condition
   condition_of (Within a b) = compared within (patterns a.items) (patterns b.items)
   condition_of (Outside a b) = compared outside (patterns a.items) (patterns b.items)
+  condition_of (Same a b) = compared same (patterns a.items) (patterns b.items)
   condition_of (Not' place member) = negated (condition_of member)
   condition_of (All' shape members) = combined all (row_conditions members)
   condition_of (Any' shape members) = combined any (row_conditions members)
@@ -48,6 +50,7 @@ abbrev mutual
 abbrev pub Compares : Comparing → List Tree → List Tree → Type 0
 Compares within ts us = (t : Tree) → t ∈ ts → t ∈ us
 Compares outside ts us = (t : Tree) → t ∈ ts → t ∈ us → ⊥
+Compares same ts us = ts ≡ us
 
 -- When a condition holds under a substitution.
 abbrev mutual

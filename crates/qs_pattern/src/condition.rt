@@ -9,6 +9,8 @@ pub enum Cond {
     Within { a: Vec<Pattern>, b: Vec<Pattern> },
     /// No tree that `a` stands for is one that `b` stands for: `-HORS-`.
     Outside { a: Vec<Pattern>, b: Vec<Pattern> },
+    /// The lists of trees that `a` and `b` stand for are equal: `-EGAL-`.
+    Same { a: Vec<Pattern>, b: Vec<Pattern> },
     /// The condition doesn't hold: `-NON-`.
     Not(Box<Cond>),
     /// Each of the conditions holds: `-ET-`.

@@ -55,6 +55,10 @@ pub fn copy_of_condition(alloc: Global, condition: &Cond) -> Result<Cond, AllocE
             a: copies_of(alloc, a)?,
             b: copies_of(alloc, b)?,
         }),
+        Cond::Same { a, b } => Ok(Cond::Same {
+            a: copies_of(alloc, a)?,
+            b: copies_of(alloc, b)?,
+        }),
         Cond::Not(member) => {
             let copy = copy_of_condition(alloc, member)?;
             Ok(Cond::Not(Box::new(alloc, copy)?))

@@ -6,15 +6,15 @@ ghost use Rattle.qs_tree.specs.Trees.{Tree};
 ghost use Rattle.qs_tree.specs.Cells.{tree_of, trees_of};
 ghost use Rattle.qs_pattern.specs.Patterns.{patterns};
 ghost use Rattle.qs_pattern.specs.Instances.{IsCovered};
-ghost use Rattle.qs_pattern.specs.Conditions.{within, outside, compared, condition_of, Holds, AllHold, SomeHolds};
-ghost use Rattle.qs_pattern.specs.Conditions.{IsConditionCovered};
+ghost use Rattle.qs_pattern.specs.Conditions.{within, outside, same, compared, condition_of, Holds};
+ghost use Rattle.qs_pattern.specs.Conditions.{AllHold, SomeHolds, IsConditionCovered};
 ghost use Rattle.qs_pattern.specs.working.Conditions.{conditions, AreConditionsCovered};
 
 use crate::condition::Cond;
 use crate::instances::forest_of;
 use crate::pattern::Pattern;
 use crate::subst::Subst;
-use qs_tree::{ForestRef, TreeRef, same};
+use qs_tree::{ForestRef, TreeRef, same, same_forest};
 use std::alloc::{AllocError, Global};
 
 // Whether the tree is one of the list.
@@ -86,6 +86,17 @@ fn is_outside(
     Ok(are_none_in(some.view(), list.view()))
 }
 
+// Whether `a -EGAL- b` holds.
+fn is_same(alloc: Global, a: &[Pattern], b: &[Pattern], subst: &Subst) -> Result<bool, AllocError>
+    requires a { IsCovered subst.now (patterns a.now) }
+    requires b { IsCovered subst.now (patterns b.now) }
+    ensures { IfOk result (λ r. IsTrue r ↔ Holds (compared same (patterns a.now) (patterns b.now)) subst.now) }
+{
+    let some = forest_of(alloc, a, subst)?;
+    let list = forest_of(alloc, b, subst)?;
+    Ok(same_forest(some.view(), list.view()))
+}
+
 /// Whether the condition holds under the substitution, which has to give each variable of the condition a value of its
 /// class.
 #[cycle(condition_holds)]
@@ -96,6 +107,7 @@ pub fn holds(alloc: Global, condition: &Cond, subst: &Subst) -> Result<bool, All
     match condition {
         Cond::Within { a, b } => is_within(alloc, a, b, subst),
         Cond::Outside { a, b } => is_outside(alloc, a, b, subst),
+        Cond::Same { a, b } => is_same(alloc, a, b, subst),
         Cond::Not(member) => Ok(!holds(alloc, member, subst)?),
         Cond::All(members) => all_hold(alloc, members, subst),
         Cond::Any(members) => some_holds(alloc, members, subst),

@@ -7,7 +7,7 @@ use base.Stored.{Gv, gnil, gcons}
 use Rattle.qs_pattern.specs.contracts.variable.Var as var
 use Rattle.qs_pattern.specs.contracts.pattern.Head as head
 use Rattle.qs_pattern.specs.Patterns.{Patterns, no_pattern, node_first, tree_var_first, forest_var_first}
-use Rattle.qs_pattern.specs.Conditions.{Comparing, within, outside, Joining, all, any, Condition, Conditions, compared}
+use Rattle.qs_pattern.specs.Conditions.{Comparing, within, outside, same, Joining, all, any, Condition, Conditions, compared}
 use Rattle.qs_pattern.specs.Conditions.{negated, combined, no_condition, condition_first}
 use Rattle.qs_pattern.specs.Rules.{Rule, UnmarkedRule, marked, unmarked}
 
@@ -62,12 +62,18 @@ patterns_code = record { code = patterns_tree; inj = patterns_tree-one }
 abbrev comparing_tree : Comparing → Gv
 comparing_tree within = first_mark
 comparing_tree outside = second_mark
+comparing_tree same = third_mark
 
 comparing_tree-one : (v w : Comparing) → comparing_tree v ≡ comparing_tree w → v ≡ w
 comparing_tree-one within within e = refl
 comparing_tree-one outside outside e = refl
+comparing_tree-one same same e = refl
 comparing_tree-one within outside e = absurd cc
+comparing_tree-one within same e = absurd cc
 comparing_tree-one outside within e = absurd cc
+comparing_tree-one outside same e = absurd cc
+comparing_tree-one same within e = absurd cc
+comparing_tree-one same outside e = absurd cc
 
 abbrev joining_tree : Joining → Gv
 joining_tree all = first_mark

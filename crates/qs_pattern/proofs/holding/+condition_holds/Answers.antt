@@ -1,7 +1,7 @@
 use Rattle.std.proofs.Common.{◌↔◌, ◌∙◌, IsTrue, IfOk, ap, sym, subst, rules}
 use Rattle.qs_pattern.specs.declared.condition.Cond.TheFolds.{the_lemmas}
 use Rattle.qs_pattern.specs.Patterns.{patterns}
-use Rattle.qs_pattern.specs.Conditions.{within, outside, all, any, compared, combined, condition_of, Holds, IsConditionCovered}
+use Rattle.qs_pattern.specs.Conditions.{within, outside, same, all, any, compared, combined, condition_of, Holds, IsConditionCovered}
 use Rattle.qs_pattern.specs.working.Conditions.{conditions}
 use Rattle.qs_pattern.proofs.ConditionLemmas.{condition-All, condition-Any}
 use Rattle.qs_pattern.proofs.holding.+condition_holds.Goals as goal
@@ -27,6 +27,12 @@ holds-returns-in-Outside t c =
     subst (λ q. IfOk c.is_outside.result (λ h. IsTrue h ↔ Holds q c.args.subst.now))
     ((λ i. compared outside (patterns (c.deref-in-Outside.ensures.value i)) (patterns (c.deref-in-Outside-2.ensures.value i))) ∙ sym (ap condition_of c.in-Outside.is))
     c.is_outside.ensures
+
+pub holds-returns-in-Same : goal.holds-returns-in-Same
+holds-returns-in-Same t c =
+    subst (λ q. IfOk c.is_same.result (λ h. IsTrue h ↔ Holds q c.args.subst.now))
+    ((λ i. compared same (patterns (c.deref-in-Same.ensures.value i)) (patterns (c.deref-in-Same-2.ensures.value i))) ∙ sym (ap condition_of c.in-Same.is))
+    c.is_same.ensures
 
 pub holds-returns-in-All : goal.holds-returns-in-All
 holds-returns-in-All t c =
