@@ -1,13 +1,13 @@
 -- The steps of the readers of conditions, and how their members grow.
-use Rattle.std.proofs.Common.{◌≡◌, ℕ, ◌≤◌, refl, sym, ◌∙◌, ap, subst, List, [], ◌∷◌, ◌++◌, length, arith}
+use Rattle.std.proofs.Common.{◌≡◌, ℕ, ◌≤◌, ◌||◌, refl, sym, ◌∙◌, ap, subst, List, [], ◌∷◌, ◌++◌, length, arith}
 use Rattle.qs_lex.specs.declared.token.Token.{Token}
-use Rattle.qs_lex.specs.declared.token.Word.TheVariants.{Dans, Hors, Et, Ou, Non}
+use Rattle.qs_lex.specs.declared.token.Word.TheVariants.{Dans, Hors, Egal, Et, Ou, Non}
 use Rattle.qs_lex.specs.Grammar.{opening, closing, the_word, part}
-use Rattle.qs_lex.specs.Expecting.{same_sort}
+use Rattle.qs_lex.specs.Expecting.{same_sort, NextIsNo}
 use Rattle.qs_lex.proofs.Predictive.{next_neither}
 use Rattle.qs_pattern.specs.declared.condition.Cond.{Cond}
 use Rattle.qs_pattern.specs.Patterns.{Patterns}
-use Rattle.qs_pattern.specs.Conditions.{Comparing, within, outside, all, any, Condition, Conditions, compared, negated, combined, no_condition, condition_first, condition_of}
+use Rattle.qs_pattern.specs.Conditions.{Comparing, within, outside, same, all, any, Condition, Conditions, compared, negated, combined, no_condition, condition_first, condition_of}
 use Rattle.qs_pattern.specs.working.Conditions.{conditions}
 use Rattle.qs_reader.specs.declared.text_end.TextEnd.{TextEnd}
 use Rattle.qs_reader.specs.Readers.{Reading, rest_of, Passes, Stays, EndsHere}
@@ -28,20 +28,34 @@ read_within {middle} a p b = read_so (compares {word = within}) (then_read a (th
 
 pub read_outside : {a b : Patterns} {r s t u v : Reading} {old middle new : List (List ℕ)} → IsRead (part list) (AList a) r s old middle → Stays (the_word Dans) s t → Passes (the_word Hors) t u
     → IsRead (part list) (AList b) u v middle new → IsRead a_comparison (APrim (compared outside a b)) r v old new
-read_outside {middle} a st p b = read_so (compares {word = outside}) (then_read a (stayed_read st (then_read (other_read (token_read middle refl p)) b)))
+read_outside {middle} a st p b = read_so (compares {word = outside}) (then_read a (stayed_read st (then_read (other_read (this_read (token_read middle refl p))) b)))
+
+pub read_same : {a b : Patterns} {r s t u v w : Reading} {old middle new : List (List ℕ)} → IsRead (part list) (AList a) r s old middle → Stays (the_word Dans) s t → Stays (the_word Hors) t u
+    → Passes (the_word Egal) u v → IsRead (part list) (AList b) v w middle new → IsRead a_comparison (APrim (compared same a b)) r w old new
+read_same {middle} a st stay p b = read_so (compares {word = same}) (then_read a (stayed_read st (stayed_read stay (then_read (other_read (other_read (token_read middle refl p))) b))))
 
 pub ends_in_first_list : {r : Reading} {end : TextEnd} → Ends (part list) r end → Ends a_comparison r end
 ends_in_first_list e = first_ends e
 
-pub ends_at_relation : {R : Reads} {r s u : Reading} {old new : List (List ℕ)} {end : TextEnd} → IsRead (part list) R r s old new → Stays (the_word Dans) s u → EndsHere (the_word Hors) u end → Ends a_comparison r end
-ends_at_relation {s} a st e =
-    then_ends a (first_ends (ends_here refl (λ n. next_neither (same_sort (the_word Dans)) (same_sort (the_word Hors)) (rest_of s) st.none n) (stayed_here st e)))
+pub ends_at_relation : {R : Reads} {r s t u : Reading} {old new : List (List ℕ)} {end : TextEnd} → IsRead (part list) R r s old new → Stays (the_word Dans) s t → Stays (the_word Hors) t u
+    → EndsHere (the_word Egal) u end → Ends a_comparison r end
+ends_at_relation {s} {t} a st stay e =
+    let no_hors : NextIsNo (same_sort (the_word Hors)) (rest_of s) = subst (λ (q : Reading). NextIsNo (same_sort (the_word Hors)) (rest_of q)) st.same stay.none in
+    let neither : NextIsNo (same_sort (the_word Egal)) (rest_of s) → NextIsNo (λ k. same_sort (the_word Dans) k || (same_sort (the_word Hors) k || same_sort (the_word Egal) k)) (rest_of s) =
+    λ n.
+    next_neither (same_sort (the_word Dans)) (λ k. same_sort (the_word Hors) k || same_sort (the_word Egal) k) (rest_of s) st.none
+    (next_neither (same_sort (the_word Hors)) (same_sort (the_word Egal)) (rest_of s) no_hors n) in
+    then_ends a (first_ends (ends_here refl neither (stayed_here st (stayed_here stay e))))
 
 pub ends_in_second_within : {R : Reads} {r s u : Reading} {old new : List (List ℕ)} {end : TextEnd} → IsRead (part list) R r s old new → Passes (the_word Dans) s u → Ends (part list) u end → Ends a_comparison r end
 ends_in_second_within {new} a p e = then_ends a (then_ends (this_read (token_read new refl p)) e)
 
 pub ends_in_second_outside : {R : Reads} {r s t u : Reading} {old new : List (List ℕ)} {end : TextEnd} → IsRead (part list) R r s old new → Stays (the_word Dans) s t → Passes (the_word Hors) t u → Ends (part list) u end → Ends a_comparison r end
-ends_in_second_outside {new} a st p e = then_ends a (stayed_ends st (then_ends (other_read (token_read new refl p)) e))
+ends_in_second_outside {new} a st p e = then_ends a (stayed_ends st (then_ends (other_read (this_read (token_read new refl p))) e))
+
+pub ends_in_second_same : {R : Reads} {r s t u v : Reading} {old new : List (List ℕ)} {end : TextEnd} → IsRead (part list) R r s old new → Stays (the_word Dans) s t → Stays (the_word Hors) t u → Passes (the_word Egal) u v
+    → Ends (part list) v end → Ends a_comparison r end
+ends_in_second_same {new} a st stay p e = then_ends a (stayed_ends st (stayed_ends stay (then_ends (other_read (other_read (token_read new refl p))) e)))
 
 -- a condition in parentheses
 group : {c : Condition} (names : List (List ℕ)) (text : List ℕ) (ts rest : List Token) → Then (AToken opening) (Then (ACond c) (AToken closing)) names text ts rest → ReadsPrim names text ts c rest

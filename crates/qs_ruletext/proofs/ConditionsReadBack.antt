@@ -5,7 +5,8 @@ use Rattle.qs_lex.specs.declared.token.Token.{Token}
 use Rattle.qs_lex.specs.declared.token.Kind.TheVariants.{Opening, Closing, Word as a_word}
 use Rattle.qs_lex.specs.declared.token.Word.{Word}
 use Rattle.qs_lex.specs.declared.token.Word.TheVariants.{Et, Ou, Non}
-use Rattle.qs_lex.specs.Spelling.{between_dashes, name_of}
+use Rattle.qs_lex.specs.Spelling.{between_dashes, name_of, since}
+use Rattle.qs_lex.specs.Tokens.{version_of}
 use Rattle.qs_lex.specs.Grammar.{sort_of}
 use Rattle.qs_pattern.specs.Patterns.{Patterns, count, AreInClass}
 use Rattle.qs_pattern.specs.Conditions.{Comparing, all, any, Condition, Conditions, compared, negated, combined, no_condition, condition_first, count_conditions, IsConditionInClass, HasEnoughMembers, HaveEnoughMembers}
@@ -14,9 +15,9 @@ use Rattle.qs_pattern.specs.Named.{ArePatternsNamed, IsConditionNamed}
 use Rattle.qs_pattern.specs.working.Named.{AreConditionsNamed}
 use Rattle.qs_ruletext.specs.Reading.{comparing_word, ReadsList, any_of, all_of, ReadsCond, reads_cond, ReadsMoreConjs, no_more_conjs, one_more_conj, ReadsConj, reads_conj, ReadsMoreNegs, no_more_negs, one_more_neg, ReadsNeg, not_negated, reads_negated, ReadsPrim, reads_group, reads_compared}
 use Rattle.qs_ruletext.specs.Texts.{list_text, in_parentheses, member_text, member_texts, condition_text, spaced_word}
-use Rattle.qs_ruletext.specs.Written.{AreOnOneLine, HasFullLists}
+use Rattle.qs_ruletext.specs.Written.{AreOnOneLine, HasFullLists, IsToldIn, AreToldIn}
 use Rattle.qs_ruletext.specs.working.Written.{HaveFullLists}
-use Rattle.qs_ruletext.proofs.ReadBack.{Goes, IsOne, IsNone, Both, both, turned, nothing, space, token, spaced}
+use Rattle.qs_ruletext.proofs.ReadBack.{Goes, IsOne, IsNone, Both, both, turned, nothing, space, token, spaced, first_version}
 use Rattle.qs_ruletext.proofs.HeadsReadBack.{Closes}
 use Rattle.qs_ruletext.proofs.PatternsReadBack.{lists_go}
 
@@ -29,15 +30,15 @@ ors_close [] left c = c
 ors_close (t ∷ ts) left c = refl
 
 -- a word between spaces
-word_goes : {text : List ℕ} (word : Word) (left : List ℕ) → Goes text (IsOne text (a_word word) (between_dashes (name_of word))) (spaced_word word) left
-word_goes {text} word left = spaced text (a_word word) (between_dashes (name_of word)) left refl tt refl
+word_goes : {text : List ℕ} (word : Word) → since word ≤ version_of text → (left : List ℕ) → Goes text (IsOne text (a_word word) (between_dashes (name_of word))) (spaced_word word) left
+word_goes {text} word known left = spaced text (a_word word) known (between_dashes (name_of word)) left refl tt refl
 
--- what is asked of a condition, so that it can be written
-abbrev pub IsWritable : ℕ → Condition → Type 0
-IsWritable n c = IsConditionNamed n c × IsConditionInClass c × HasEnoughMembers c × HasFullLists c
+-- what is asked of a condition, so that it can be written in a text of this version
+abbrev pub IsWritable : ℕ → ℕ → Condition → Type 0
+IsWritable version n c = IsConditionNamed n c × IsConditionInClass c × HasEnoughMembers c × HasFullLists c × IsToldIn version c
 
-abbrev pub AreWritable : ℕ → Conditions → Type 0
-AreWritable n cs = AreConditionsNamed n cs × EachListOfAll AreInClass cs × HaveEnoughMembers cs × HaveFullLists cs
+abbrev pub AreWritable : ℕ → ℕ → Conditions → Type 0
+AreWritable version n cs = AreConditionsNamed n cs × EachListOfAll AreInClass cs × HaveEnoughMembers cs × HaveFullLists cs × AreToldIn version cs
 
 -- at least two make one of several
 all_of_several : (c : Condition) (cs : Conditions) → 2 ≤ count_conditions (condition_first c cs) → all_of c cs ≡ combined all (condition_first c cs)
@@ -80,8 +81,8 @@ module _ (names : List (List ℕ)) (text : List ℕ) where
       let inside = subst (λ us. ReadsCond names text x.0 c us) x.2.2.1 (as_cond c x.0 x.2.0 x.2.1) in
       subst (λ us. ReadsPrim names text us c rest) (sym x.1.1) (reads_group (ap sort_of x.1.2) inside (ap sort_of x.2.2.2)))
       (both text (codes "(") (condition_text names c ++ codes ")") left
-      (token text Opening (codes "(") ((condition_text names c ++ codes ")") ++ left) refl tt refl)
-      (both text (condition_text names c) (codes ")") left (goes (codes ")" ++ left) refl) (token text Closing (codes ")") left refl tt refl)))
+      (token text Opening tt (codes "(") ((condition_text names c ++ codes ")") ++ left) refl tt refl)
+      (both text (condition_text names c) (codes ")") left (goes (codes ")" ++ left) refl) (token text Closing tt (codes ")") left refl tt refl)))
 
   neg_of_prim : (c : Condition) (piece left : List ℕ) → Goes text (λ ts rest. ReadsPrim names text ts c rest) piece left → Goes text (λ ts rest. ReadsNeg names text ts c rest) piece left
   neg_of_prim c piece left go = turned text piece left (λ ts rest r. not_negated r) go
@@ -128,7 +129,7 @@ module _ (names : List (List ℕ)) (text : List ℕ) where
       turned text ((codes " -ET- " ++ first) ++ others) left
       (λ ts rest x. subst (λ us. ReadsMoreNegs names text us (condition_first c cs) rest) (sym x.1.1.1) (one_more_neg (ap sort_of x.1.1.2) x.1.2 x.2))
       (both text (codes " -ET- " ++ first) others left
-      (both text (codes " -ET- ") first (others ++ left) (spaced text (a_word Et) (codes "-ET-") (first ++ (others ++ left)) refl tt refl)
+      (both text (codes " -ET- ") first (others ++ left) (spaced text (a_word Et) (first_version text) (codes "-ET-") (first ++ (others ++ left)) refl tt refl)
       (neg_member c goes (others ++ left) (ands_close (member_texts names 2 cs) left closes)))
       (more left closes))
 
@@ -139,7 +140,7 @@ module _ (names : List (List ℕ)) (text : List ℕ) where
       turned text ((codes " -OU- " ++ first) ++ others) left
       (λ ts rest x. subst (λ us. ReadsMoreConjs names text us (condition_first c cs) rest) (sym x.1.1.1) (one_more_conj (ap sort_of x.1.1.2) x.1.2 x.2))
       (both text (codes " -OU- " ++ first) others left
-      (both text (codes " -OU- ") first (others ++ left) (spaced text (a_word Ou) (codes "-OU-") (first ++ (others ++ left)) refl tt refl)
+      (both text (codes " -OU- ") first (others ++ left) (spaced text (a_word Ou) (first_version text) (codes "-OU-") (first ++ (others ++ left)) refl tt refl)
       (conj_member c goes (others ++ left) (ors_close (member_texts names 1 cs) left closes)))
       (more left closes))
 
@@ -161,7 +162,7 @@ module _ (names : List (List ℕ)) (text : List ℕ) where
 
   -- the word of a negation, with the space behind it
   negation_goes : (left : List ℕ) → Goes text (Both (IsOne text (a_word Non) (codes "-NON-")) IsNone) (codes "-NON- ") left
-  negation_goes left = both text (codes "-NON-") (32 ∷ []) left (token text (a_word Non) (codes "-NON-") (32 ∷ left) refl tt refl) (space text left)
+  negation_goes left = both text (codes "-NON-") (32 ∷ []) left (token text (a_word Non) (first_version text) (codes "-NON-") (32 ∷ left) refl tt refl) (space text left)
 
   negated_goes : (c : Condition) → ConditionGoes c → ConditionGoes (negated c)
   negated_goes c goes left closes =
@@ -171,7 +172,8 @@ module _ (names : List (List ℕ)) (text : List ℕ) where
       (both text (codes "-NON- ") member left (negation_goes (member ++ left)) (prim_member c goes left closes))
 
   -- two lists with a word between them
-  module _ (line : AreOnOneLine names) (word : Comparing) (a b : Patterns) (named : ArePatternsNamed (length names) a × ArePatternsNamed (length names) b) (class : AreInClass a × AreInClass b) (full : (1 ≤ count a) × (1 ≤ count b)) where
+  module _ (line : AreOnOneLine names) (word : Comparing) (a b : Patterns) (named : ArePatternsNamed (length names) a × ArePatternsNamed (length names) b) (class : AreInClass a × AreInClass b) (full : (1 ≤ count a) × (1 ≤ count b))
+      (told : since (comparing_word word) ≤ version_of text) where
     compared_goes : ConditionGoes (compared word a b)
     compared_goes left closes =
         let between : List ℕ = spaced_word (comparing_word word) in
@@ -180,29 +182,29 @@ module _ (names : List (List ℕ)) (text : List ℕ) where
         (λ ts rest x. reads_compared {word = word} (subst (λ us. ReadsList names text ts a us) x.2.1.1 x.1) (ap sort_of x.2.1.2) x.2.2)
         (both text (list_text names a) behind left
         ((lists_go names text line a named.0 class.0).1 (behind ++ left) refl full.0)
-        (both text between (list_text names b) left (word_goes (comparing_word word) (list_text names b ++ left))
+        (both text between (list_text names b) left (word_goes (comparing_word word) told (list_text names b ++ left))
         ((lists_go names text line b named.1 class.1).1 left closes full.1)))
 
 module _ (names : List (List ℕ)) (text : List ℕ) (line : AreOnOneLine names) where
   mutual
-    condition_goes : (c : Condition) → IsWritable (length names) c → ConditionGoes names text c
-    condition_goes (compared word a b) w = compared_goes names text line word a b w.0 w.1 w.3
+    condition_goes : (c : Condition) → IsWritable (version_of text) (length names) c → ConditionGoes names text c
+    condition_goes (compared word a b) w = compared_goes names text line word a b w.0 w.1 w.3 w.4
     condition_goes (negated c) w = negated_goes names text c (condition_goes c w)
     condition_goes (combined all no_condition) w = absurd (omega (arith, w.2.0))
     condition_goes (combined all (condition_first c cs)) w =
-        all_goes names text c cs w.2.0 (condition_goes c (w.0.0, w.1.0, w.2.1.0, w.3.0)) (negs_go cs (w.0.1, w.1.1, w.2.1.1, w.3.1))
+        all_goes names text c cs w.2.0 (condition_goes c (w.0.0, w.1.0, w.2.1.0, w.3.0, w.4.0)) (negs_go cs (w.0.1, w.1.1, w.2.1.1, w.3.1, w.4.1))
     condition_goes (combined any no_condition) w = absurd (omega (arith, w.2.0))
     condition_goes (combined any (condition_first c cs)) w =
-        any_goes names text c cs w.2.0 (condition_goes c (w.0.0, w.1.0, w.2.1.0, w.3.0)) (conjs_go cs (w.0.1, w.1.1, w.2.1.1, w.3.1))
+        any_goes names text c cs w.2.0 (condition_goes c (w.0.0, w.1.0, w.2.1.0, w.3.0, w.4.0)) (conjs_go cs (w.0.1, w.1.1, w.2.1.1, w.3.1, w.4.1))
 
-    negs_go : (cs : Conditions) → AreWritable (length names) cs → NegsGo names text cs
+    negs_go : (cs : Conditions) → AreWritable (version_of text) (length names) cs → NegsGo names text cs
     negs_go no_condition w = no_negs names text
-    negs_go (condition_first c cs) w = one_neg names text c cs (condition_goes c (w.0.0, w.1.0, w.2.0, w.3.0)) (negs_go cs (w.0.1, w.1.1, w.2.1, w.3.1))
+    negs_go (condition_first c cs) w = one_neg names text c cs (condition_goes c (w.0.0, w.1.0, w.2.0, w.3.0, w.4.0)) (negs_go cs (w.0.1, w.1.1, w.2.1, w.3.1, w.4.1))
 
-    conjs_go : (cs : Conditions) → AreWritable (length names) cs → ConjsGo names text cs
+    conjs_go : (cs : Conditions) → AreWritable (version_of text) (length names) cs → ConjsGo names text cs
     conjs_go no_condition w = no_conjs names text
-    conjs_go (condition_first c cs) w = one_conj names text c cs (condition_goes c (w.0.0, w.1.0, w.2.0, w.3.0)) (conjs_go cs (w.0.1, w.1.1, w.2.1, w.3.1))
+    conjs_go (condition_first c cs) w = one_conj names text c cs (condition_goes c (w.0.0, w.1.0, w.2.0, w.3.0, w.4.0)) (conjs_go cs (w.0.1, w.1.1, w.2.1, w.3.1, w.4.1))
 
   -- a condition as the whole of one
-  pub cond_goes : (c : Condition) → IsWritable (length names) c → (left : List ℕ) → Closes left → Goes text (λ ts rest. ReadsCond names text ts c rest) (condition_text names c) left
+  pub cond_goes : (c : Condition) → IsWritable (version_of text) (length names) c → (left : List ℕ) → Closes left → Goes text (λ ts rest. ReadsCond names text ts c rest) (condition_text names c) left
   cond_goes c w left closes = turned text (condition_text names c) left (λ ts rest r. as_cond names text c ts rest r) (condition_goes c w left closes)

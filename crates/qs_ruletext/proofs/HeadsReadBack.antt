@@ -96,7 +96,7 @@ module _ (text : List ℕ) where
   variable_goes sort v left of c =
       turned text (variable_text v) left
       (λ ts rest x. (x.0, x.1, record { of_sort = ap sort_of x.2 ∙ of.1; variable = x.2 }))
-      (token text (Variable v.letter v.number) (variable_text v) left (of.0, v.known.1, refl) (variable_ends v left c)
+      (token text (Variable v.letter v.number) tt (variable_text v) left (of.0, v.known.1, refl) (variable_ends v left c)
       (label_no_blank v.letter (42 ∷ (suffix_of v.number ++ left)) (letter_is_label v.letter of.0)))
 
   pub label_variable_goes : (v : Var) (left : List ℕ) → IsLabelVar v → Closes left → Goes text (AreVariable a_label_variable v) (variable_text v) left
@@ -122,10 +122,10 @@ module _ (text : List ℕ) where
       let some : 0 < length name = grind (arith, nat_tests, parts.0) in
       let each : Each is_label name = each_from_all is_label name parts.1 in
       turned text name left (λ ts rest x. (x.0, x.1, has_text Bare name name x.0 refl x.2 x.3))
-      (token text Bare name left (some, each) (bare_ends left c) (bare_no_blank name left some each))
+      (token text Bare tt name left (some, each) (bare_ends left c) (bare_no_blank name left some each))
   label_case name left false is line c =
       turned text (between_quotes name) left (λ ts rest x. (x.0, x.1, has_text Quoted (between_quotes name) name x.0 refl x.2 x.3))
-      (token text Quoted (between_quotes name) left (name, line, refl) (quoted_ends left c) refl)
+      (token text Quoted tt (between_quotes name) left (name, line, refl) (quoted_ends left c) refl)
 
   pub head_goes : (names : List (List ℕ)) (h : Head) (left : List ℕ) → AreOnOneLine names → IsHeadNamed (length names) h → IsHeadInClass h → Closes left
       → Goes text (λ ts rest. (t : Token) × (ts ≡ t ∷ rest) × IsHeadOf names text t h) (head_text names h) left

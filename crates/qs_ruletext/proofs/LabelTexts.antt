@@ -204,7 +204,7 @@ mutual
 
   prim_passes : {names : List (List ℕ)} {text : List ℕ} {ts rest : List Token} {c : Condition} → ReadsPrim names text ts c rest → PassesLabels names text ts (labels_in_condition c) rest
   prim_passes (reads_group e c f) = passes_both (passes_sign opening refl e) (passes_before closing refl (cond_passes c) f)
-  prim_passes (reads_compared {word} a e b) = passes_both (passes_before (the_word (comparing_word word)) (none_compares (same_sort a_label) refl refl word) (list_passes a) e) (list_passes b)
+  prim_passes (reads_compared {word} a e b) = passes_both (passes_before (the_word (comparing_word word)) (none_compares (same_sort a_label) refl refl refl word) (list_passes a) e) (list_passes b)
 
 given_passes : {names : List (List ℕ)} {text : List ℕ} {ts rest : List Token} {c : Option Condition} → ReadsCondIfGiven names text ts c rest → PassesLabels names text ts (labels_if_given c) rest
 given_passes no_cond = passes_nothing

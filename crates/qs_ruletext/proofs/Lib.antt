@@ -18,6 +18,7 @@ pub mod ReadBack
 pub mod HeadsReadBack
 pub mod PatternsReadBack
 pub mod ConditionsReadBack
+pub mod Telling
 pub mod RulesReadBack
 pub mod OneLine
 pub mod Nesting

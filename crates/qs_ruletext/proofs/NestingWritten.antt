@@ -6,12 +6,13 @@ use Rattle.qs_lex.specs.declared.token.Kind.{Kind}
 use Rattle.qs_lex.specs.declared.token.Kind.TheVariants.{Opening, Closing, Comma, Plus, Slash, Equals, Stop, Word as a_word}
 use Rattle.qs_lex.specs.declared.token.Word.{Word}
 use Rattle.qs_lex.specs.declared.token.Word.TheVariants.{Non}
-use Rattle.qs_lex.specs.Spelling.{between_dashes, name_of as word_name}
+use Rattle.qs_lex.specs.Spelling.{between_dashes, name_of as word_name, since}
+use Rattle.qs_lex.specs.Tokens.{version_of}
 use Rattle.qs_lex.specs.Grammar.{Sort, a_tree_variable, a_forest_variable, sort_of}
 use Rattle.qs_pattern.specs.declared.variable.Var.{Var}
 use Rattle.qs_pattern.specs.declared.pattern.Head.{Head}
 use Rattle.qs_pattern.specs.Patterns.{Patterns, no_pattern, node_first, tree_var_first, forest_var_first, IsHeadInClass, AreInClass}
-use Rattle.qs_pattern.specs.Conditions.{Condition, Conditions, compared, negated, combined, no_condition, condition_first, IsConditionInClass}
+use Rattle.qs_pattern.specs.Conditions.{Joining, all, any, Condition, Conditions, compared, negated, combined, no_condition, condition_first, IsConditionInClass}
 use Rattle.qs_pattern.specs.working.Conditions.{EachListOfAll}
 use Rattle.qs_pattern.specs.Named.{IsHeadNamed, ArePatternsNamed, IsConditionNamed}
 use Rattle.qs_pattern.specs.working.Named.{AreConditionsNamed}
@@ -19,8 +20,8 @@ use Rattle.qs_pattern.specs.Rules.{UnmarkedRule}
 use Rattle.qs_ruletext.specs.Rules.{IsWellReadIfGiven, IsWellRead}
 use Rattle.qs_ruletext.specs.Reading.{comparing_word}
 use Rattle.qs_ruletext.specs.Texts.{spaced_word, joining_word, joining_tightness, joined, in_parentheses, variable_text, head_text, kids_text, pattern_texts, list_text, side_text, tightness, member_text, condition_text, member_texts, condition_part}
-use Rattle.qs_ruletext.specs.Written.{AreOnOneLine, written}
-use Rattle.qs_ruletext.proofs.ReadBack.{Goes, IsOne, both, turned, nothing, space, token, spaced}
+use Rattle.qs_ruletext.specs.Written.{AreOnOneLine, IsToldIn, AreToldIn, IsToldIfGiven, IsRuleToldIn, written}
+use Rattle.qs_ruletext.proofs.ReadBack.{Goes, IsOne, both, turned, nothing, space, token, spaced, first_version}
 use Rattle.qs_ruletext.proofs.HeadsReadBack.{Closes, AreVariable, head_goes, tree_variable_goes, forest_variable_goes}
 use Rattle.qs_ruletext.proofs.Nesting.{Fits, below, height, member_height, condition_height, condition_heights, height_if_given, rule_height}
 use Rattle.qs_ruletext.proofs.NestingSteps.{behind_sort, keeps, head_keeps, Opens, opens_less, opens_none, opens_both, opens_one, opens_group}
@@ -66,8 +67,8 @@ module _ (text : List ℕ) where
       let inside = subst (λ us. Opens n x.0 us) x.2.2.1 x.2.1 in
       subst (λ us. Opens (suc n) us rest) (sym x.1.1) (opens_group x.1.0 x.2.2.0 (ap sort_of x.1.2) inside (ap sort_of x.2.2.2)))
       (both text (codes "(") (piece ++ codes ")") left
-      (token text Opening (codes "(") ((piece ++ codes ")") ++ left) refl tt refl)
-      (both text piece (codes ")") left go (token text Closing (codes ")") left refl tt refl)))
+      (token text Opening tt (codes "(") ((piece ++ codes ")") ++ left) refl tt refl)
+      (both text piece (codes ")") left go (token text Closing tt (codes ")") left refl tt refl)))
 
   -- wherever a label and a variable end behind it, the piece opens at most so many
   abbrev pub OpensUpTo : ℕ → List ℕ → Type 0
@@ -90,21 +91,25 @@ module _ (text : List ℕ) where
   -- what stands between two patterns, and between two members of a condition
   comma_separates : Separates (codes ",")
   comma_separates = record {
-    goes = λ n left. one_goes n Comma (codes ",") (codes ",") left (λ m. refl) (token text Comma (codes ",") left refl tt refl);
+    goes = λ n left. one_goes n Comma (codes ",") (codes ",") left (λ m. refl) (token text Comma tt (codes ",") left refl tt refl);
     closes = others_close 44 [] refl;
   }
 
   plus_separates : Separates (codes " + ")
   plus_separates = record {
-    goes = λ n left. one_goes n Plus (codes "+") (codes " + ") left (λ m. refl) (spaced text Plus (codes "+") left refl tt refl);
+    goes = λ n left. one_goes n Plus (codes "+") (codes " + ") left (λ m. refl) (spaced text Plus tt (codes "+") left refl tt refl);
     closes = others_close 32 (codes "+ ") refl;
   }
 
-  word_separates : (word : Word) → Separates (spaced_word word)
-  word_separates word =
+  joining_known : (word : Joining) → since (joining_word word) ≤ version_of text
+  joining_known all = first_version text
+  joining_known any = first_version text
+
+  word_separates : (word : Word) → since word ≤ version_of text → Separates (spaced_word word)
+  word_separates word known =
       let bytes : List ℕ = between_dashes (word_name word) in
       record {
-        goes = λ n left. one_goes n (a_word word) bytes (spaced_word word) left (λ m. refl) (spaced text (a_word word) bytes left refl tt refl);
+        goes = λ n left. one_goes n (a_word word) bytes (spaced_word word) left (λ m. refl) (spaced text (a_word word) known bytes left refl tt refl);
         closes = others_close 32 (bytes ++ codes " ") refl;
       }
 
@@ -188,36 +193,36 @@ module _ (text : List ℕ) where
         let member : List ℕ = member_text 3 c (condition_text names c) in
         both_go (codes "-NON- ") member left
         (both_go (codes "-NON-") (codes " ") (member ++ left)
-        (one_goes _ (a_word Non) (codes "-NON-") (codes "-NON-") (codes " " ++ (member ++ left)) (λ m. refl) (token text (a_word Non) (codes "-NON-") (codes " " ++ (member ++ left)) refl tt refl))
+        (one_goes _ (a_word Non) (codes "-NON-") (codes "-NON-") (codes " " ++ (member ++ left)) (λ m. refl) (token text (a_word Non) (first_version text) (codes "-NON-") (codes " " ++ (member ++ left)) refl tt refl))
         (turned text (codes " ") (member ++ left) (λ ts rest e. opens_none _ e) (space text (member ++ left))))
         (member_goes 3 c (condition_text names c) go left closes)
 
     -- a condition, and each of its members
     mutual
-      pub condition_opens : (c : Condition) → IsConditionNamed (length names) c → IsConditionInClass c → OpensUpTo (condition_height c) (condition_text names c)
-      condition_opens (compared word a b) named class =
-          lists_open a b (spaced_word (comparing_word word)) named class (word_separates (comparing_word word)).goes (λ behind left. refl) _ (omega arith) (omega arith)
-      condition_opens (negated c) named class = negated_opens c (condition_opens c named class)
-      condition_opens (combined word cs) named class =
-          joined_go (word_separates (joining_word word)) (member_texts names (joining_tightness word) cs) (members_open (joining_tightness word) cs named class)
+      pub condition_opens : (c : Condition) → IsConditionNamed (length names) c → IsConditionInClass c → IsToldIn (version_of text) c → OpensUpTo (condition_height c) (condition_text names c)
+      condition_opens (compared word a b) named class told =
+          lists_open a b (spaced_word (comparing_word word)) named class (word_separates (comparing_word word) told).goes (λ behind left. refl) _ (omega arith) (omega arith)
+      condition_opens (negated c) named class told = negated_opens c (condition_opens c named class told)
+      condition_opens (combined word cs) named class told =
+          joined_go (word_separates (joining_word word) (joining_known word)) (member_texts names (joining_tightness word) cs) (members_open (joining_tightness word) cs named class told)
 
-      members_open : (outer : ℕ) (cs : Conditions) → AreConditionsNamed (length names) cs → EachListOfAll AreInClass cs → EachUpTo (condition_heights outer cs) (member_texts names outer cs)
-      members_open outer no_condition named class = tt
-      members_open outer (condition_first c cs) named class = (
-        λ left closes. goes_less (member_text outer c (condition_text names c)) left (member_goes outer c (condition_text names c) (condition_opens c named.0 class.0) left closes) (omega arith),
-        each_less (member_texts names outer cs) (members_open outer cs named.1 class.1) (omega arith),
+      members_open : (outer : ℕ) (cs : Conditions) → AreConditionsNamed (length names) cs → EachListOfAll AreInClass cs → AreToldIn (version_of text) cs → EachUpTo (condition_heights outer cs) (member_texts names outer cs)
+      members_open outer no_condition named class told = tt
+      members_open outer (condition_first c cs) named class told = (
+        λ left closes. goes_less (member_text outer c (condition_text names c)) left (member_goes outer c (condition_text names c) (condition_opens c named.0 class.0 told.0) left closes) (omega arith),
+        each_less (member_texts names outer cs) (members_open outer cs named.1 class.1 told.1) (omega arith),
       )
 
-    given_opens : (condition : Option Condition) → IsWellReadIfGiven (length names) condition → OpensUpTo (height_if_given condition) (condition_part names condition)
-    given_opens None w left closes = none_goes 0 left
-    given_opens (Some c) w left closes =
+    given_opens : (condition : Option Condition) → IsWellReadIfGiven (length names) condition → IsToldIfGiven (version_of text) condition → OpensUpTo (height_if_given condition) (condition_part names condition)
+    given_opens None w told left closes = none_goes 0 left
+    given_opens (Some c) w told left closes =
         both_go (codes " / ") (condition_text names c) left
-        (one_goes _ Slash (codes "/") (codes " / ") (condition_text names c ++ left) (λ m. refl) (spaced text Slash (codes "/") (condition_text names c ++ left) refl tt refl))
-        (condition_opens c w.named w.in_class left closes)
+        (one_goes _ Slash (codes "/") (codes " / ") (condition_text names c ++ left) (λ m. refl) (spaced text Slash tt (codes "/") (condition_text names c ++ left) refl tt refl))
+        (condition_opens c w.named w.in_class told left closes)
 
     -- whatever follows: a rule ends with a stop
-    pub rule_opens : (r : UnmarkedRule) → IsWellRead (length names) r → (left : List ℕ) → Goes text (Opens (rule_height r)) (written names r) left
-    rule_opens r w left =
+    pub rule_opens : (r : UnmarkedRule) → IsWellRead (length names) r → IsRuleToldIn (version_of text) r → (left : List ℕ) → Goes text (Opens (rule_height r)) (written names r) left
+    rule_opens r w told left =
         let part : List ℕ = condition_part names r.condition in
         let behind_right : List ℕ = part ++ codes "." in
         let behind_equals : List ℕ = side_text names r.right ++ behind_right in
@@ -225,15 +230,15 @@ module _ (text : List ℕ) where
         both_go (side_text names r.left) behind_left left
         (goes_less (side_text names r.left) (behind_left ++ left) (side_opens r.left w.left.named w.left.in_class (behind_left ++ left) refl) (omega arith))
         (both_go (codes " == ") behind_equals left
-        (one_goes _ Equals (codes "==") (codes " == ") (behind_equals ++ left) (λ m. refl) (spaced text Equals (codes "==") (behind_equals ++ left) refl tt refl))
+        (one_goes _ Equals (codes "==") (codes " == ") (behind_equals ++ left) (λ m. refl) (spaced text Equals tt (codes "==") (behind_equals ++ left) refl tt refl))
         (both_go (side_text names r.right) behind_right left
         (goes_less (side_text names r.right) (behind_right ++ left) (side_opens r.right w.right.named w.right.in_class (behind_right ++ left) (part_closes names r.condition left)) (omega arith))
         (both_go part (codes ".") left
-        (goes_less part (codes "." ++ left) (given_opens r.condition w.condition (codes "." ++ left) refl) (omega arith))
-        (one_goes _ Stop (codes ".") (codes ".") left (λ m. refl) (token text Stop (codes ".") left refl tt refl)))))
+        (goes_less part (codes "." ++ left) (given_opens r.condition w.condition told (codes "." ++ left) refl) (omega arith))
+        (one_goes _ Stop (codes ".") (codes ".") left (λ m. refl) (token text Stop tt (codes ".") left refl tt refl)))))
 
 -- the same in plain words: where as many more parentheses as the rule needs may be open, and what stands behind the rule
 -- fits, the rule and what stands behind it do
-pub rule_goes_fitting : (names : List (List ℕ)) (text : List ℕ) → AreOnOneLine names → (r : UnmarkedRule) → IsWellRead (length names) r → (left : List ℕ)
+pub rule_goes_fitting : (names : List (List ℕ)) (text : List ℕ) → AreOnOneLine names → (r : UnmarkedRule) → IsWellRead (length names) r → IsRuleToldIn (version_of text) r → (left : List ℕ)
     → Goes text (λ ts rest. (depth : ℕ) → rule_height r + depth ≤ 1000 → Fits depth rest → Fits depth ts) (written names r) left
-rule_goes_fitting names text line r w left = turned text (written names r) left (λ ts rest o. o.fits) (rule_opens text names line r w left)
+rule_goes_fitting names text line r w told left = turned text (written names r) left (λ ts rest o. o.fits) (rule_opens text names line r w told left)

@@ -263,6 +263,6 @@ module _ (names : List (List ℕ)) (text : List ℕ) (distinct : AreDistinct nam
     one_prim (reads_group {t} e c f) (reads_compared a g b) n m = absurd (no_list opening t refl e a)
     one_prim (reads_compared a g b) (reads_group {t} e c f) n m = absurd (no_list opening t refl e a)
     one_prim (reads_compared {word = v} {t} a e b) (reads_compared {word = w} {t = u} p f q) n m =
-        let same = both_lists (fails_for after_list (the_word (comparing_word v)) t (none_compares after_list refl refl v) e) (fails_for after_list (the_word (comparing_word w)) u (none_compares after_list refl refl w) f) a b p q n m in
+        let same = both_lists (fails_for after_list (the_word (comparing_word v)) t (none_compares after_list refl refl refl v) e) (fails_for after_list (the_word (comparing_word w)) u (none_compares after_list refl refl refl w) f) a b p q n m in
         let word = one_comparing v w u (subst (λ x. IsOf (the_word (comparing_word v)) x) same.1 e) f in
         (λ i. compared (word i) (same.0 i) (same.2 i), same.3)

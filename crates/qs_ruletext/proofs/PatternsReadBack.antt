@@ -65,8 +65,8 @@ module _ (names : List (List ℕ)) (text : List ℕ) (line : AreOnOneLine names)
       let inside = subst (λ us. ReadsList names text x.0 ps us) x.2.2.1 x.2.1 in
       subst (λ us. ReadsSubtrees names text us ps rest) (sym x.1.1) (list_inside (ap sort_of x.1.2) inside (ap sort_of x.2.2.2)))
       (both text (codes "(") (list_text names ps ++ codes ")") left
-      (token text Opening (codes "(") ((list_text names ps ++ codes ")") ++ left) refl tt refl)
-      (both text (list_text names ps) (codes ")") left (goes (codes ")" ++ left) refl some) (token text Closing (codes ")") left refl tt refl)))
+      (token text Opening tt (codes "(") ((list_text names ps ++ codes ")") ++ left) refl tt refl)
+      (both text (list_text names ps) (codes ")") left (goes (codes ")" ++ left) refl some) (token text Closing tt (codes ")") left refl tt refl)))
 
   kids_go : (ps : Patterns) → ListGoes ps (list_text names ps) → KidsGo ps
   kids_go no_pattern goes left = turned text [] left (λ ts rest e. subst (λ us. ReadsSubtrees names text ts no_pattern us) e no_parentheses) (nothing text left)
@@ -106,7 +106,7 @@ module _ (names : List (List ℕ)) (text : List ℕ) (line : AreOnOneLine names)
         turned text ((codes "," ++ piece) ++ commas ps) left
         (λ ts rest x. subst (λ us. ReadsMoreItems names text us (joined p ps) rest) (sym x.1.1.1) (one_more_item (ap sort_of x.1.1.2) x.1.2 x.2))
         (both text (codes "," ++ piece) (commas ps) left
-        (both text (codes ",") piece (commas ps ++ left) (token text Comma (codes ",") (piece ++ (commas ps ++ left)) refl tt refl) (go (commas ps ++ left) (commas_close (pattern_texts names ps) left c)))
+        (both text (codes ",") piece (commas ps ++ left) (token text Comma tt (codes ",") (piece ++ (commas ps ++ left)) refl tt refl) (go (commas ps ++ left) (commas_close (pattern_texts names ps) left c)))
         (more left c)),
     λ left c some.
         turned text (piece ++ commas ps) left (λ ts rest x. reads_list x.1 x.2)
@@ -135,7 +135,7 @@ module _ (names : List (List ℕ)) (text : List ℕ) (line : AreOnOneLine names)
         turned text ((codes " + " ++ piece) ++ pluses ps) left
         (λ ts rest x. subst (λ us. ReadsMoreTrees names text us (joined p ps) rest) (sym x.1.1.1) (one_more_tree (ap sort_of x.1.1.2) x.1.2 x.2))
         (both text (codes " + " ++ piece) (pluses ps) left
-        (both text (codes " + ") piece (pluses ps ++ left) (spaced text Plus (codes "+") (piece ++ (pluses ps ++ left)) refl tt refl) (go (pluses ps ++ left) (pluses_close (pattern_texts names ps) left c)))
+        (both text (codes " + ") piece (pluses ps ++ left) (spaced text Plus tt (codes "+") (piece ++ (pluses ps ++ left)) refl tt refl) (go (pluses ps ++ left) (pluses_close (pattern_texts names ps) left c)))
         (more left c)),
     λ left c some.
         turned text (piece ++ pluses ps) left (λ ts rest x. reads_side x.1 x.2)

@@ -4,8 +4,9 @@ use Rattle.std.proofs.Common.{◌≡◌, ℕ, suc, ◌+◌, ◌-◌, refl, sym, 
 use Rattle.std.proofs.lemmas.List.{take_at, drop_at}
 use Rattle.qs_lex.specs.declared.token.Token.{Token}
 use Rattle.qs_lex.specs.declared.token.Kind.{Kind}
-use Rattle.qs_lex.specs.Spelling.{Spells, EndsBefore}
-use Rattle.qs_lex.specs.Tokens.{blank_len, next_place, bytes_of, StandsIn, Reads, AreTokensOf}
+use Rattle.qs_lex.specs.Spelling.{Spells, IsInVersion, EndsBefore}
+use Rattle.qs_lex.specs.Tokens.{version_of, blank_len, next_place, bytes_of, StandsIn, Reads, AreTokensOf}
+pub use Rattle.qs_lex.proofs.Versions.{first_version}
 
 -- this is what is left of the text from some place on
 pub record IsLeft (text left : List ℕ) : Type 0 where
@@ -88,8 +89,8 @@ module _ (text : List ℕ) where
   end_of_line left = blank 10 (λ bs. refl) left
 
   -- a token whose first byte is neither white space nor the start of a comment
-  pub token : (kind : Kind) (bytes left : List ℕ) → Spells kind bytes → EndsBefore kind left → blank_len (bytes ++ left) ≡ 0 → Goes text (IsOne text kind bytes) bytes left
-  token kind bytes left spelled ends no_blank = record {
+  pub token : (kind : Kind) → IsInVersion (version_of text) kind → (bytes left : List ℕ) → Spells kind bytes → EndsBefore kind left → blank_len (bytes ++ left) ≡ 0 → Goes text (IsOne text kind bytes) bytes left
+  token kind known bytes left spelled ends no_blank = record {
     go = λ is rest next r.
         let from : ℕ = place text (bytes ++ left) in
         let to : ℕ = place text left in
@@ -99,6 +100,7 @@ module _ (text : List ℕ) where
         let t : Token = record { kind = kind; from = from; to = to } in
         let first : t.from ≡ next_place text from = omega (arith, ap blank_len (left_there is), no_blank) in
         let stands : StandsIn text t = record {
+          known = known;
           within = omega arith;
           spelled = subst (Spells kind) (sym bytes_are) spelled;
           ended = subst (EndsBefore kind) (sym (left_there behind)) ends;
@@ -107,12 +109,12 @@ module _ (text : List ℕ) where
   }
 
   -- a token between spaces
-  pub spaced : (kind : Kind) (bytes left : List ℕ) → Spells kind bytes → EndsBefore kind (32 ∷ left) → blank_len (bytes ++ 32 ∷ left) ≡ 0
+  pub spaced : (kind : Kind) → IsInVersion (version_of text) kind → (bytes left : List ℕ) → Spells kind bytes → EndsBefore kind (32 ∷ left) → blank_len (bytes ++ 32 ∷ left) ≡ 0
       → Goes text (IsOne text kind bytes) (32 ∷ (bytes ++ 32 ∷ [])) left
-  spaced kind bytes left spelled ends no_blank =
+  spaced kind known bytes left spelled ends no_blank =
       turned (32 ∷ (bytes ++ 32 ∷ [])) left
       (λ ts rest x. (x.2.1.0, x.1 ∙ x.2.1.1 ∙ ap (λ us. x.2.1.0 ∷ us) x.2.2, x.2.1.2, x.2.1.3))
-      (both (32 ∷ []) (bytes ++ 32 ∷ []) left (space ((bytes ++ 32 ∷ []) ++ left)) (both bytes (32 ∷ []) left (token kind bytes (32 ∷ left) spelled ends no_blank) (space left)))
+      (both (32 ∷ []) (bytes ++ 32 ∷ []) left (space ((bytes ++ 32 ∷ []) ++ left)) (both bytes (32 ∷ []) left (token kind known bytes (32 ∷ left) spelled ends no_blank) (space left)))
 
 -- a piece between other things: where the tokens behind it are read, it and those tokens are
 pub amid : {Are : List Token → List Token → Type 0} → (before piece behind : List ℕ) (rest : List Token) (next : ℕ) → Goes (before ++ (piece ++ behind)) Are piece behind

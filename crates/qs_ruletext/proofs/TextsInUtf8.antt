@@ -13,7 +13,7 @@ use Rattle.qs_pattern.specs.declared.variable.Var.{Var}
 use Rattle.qs_pattern.specs.declared.pattern.Head.{Head}
 use Rattle.qs_pattern.specs.declared.pattern.Head.TheVariants as head
 use Rattle.qs_pattern.specs.Patterns.{Patterns, no_pattern, node_first, tree_var_first, forest_var_first, IsHeadInClass, AreInClass}
-use Rattle.qs_pattern.specs.Conditions.{Comparing, within, outside, Joining, all, any, Condition, Conditions, compared, negated, combined, no_condition, condition_first, IsConditionInClass}
+use Rattle.qs_pattern.specs.Conditions.{Comparing, within, outside, same, Joining, all, any, Condition, Conditions, compared, negated, combined, no_condition, condition_first, IsConditionInClass}
 use Rattle.qs_pattern.specs.working.Conditions.{EachListOfAll}
 use Rattle.qs_pattern.specs.Rules.{UnmarkedRule, IsInClassIfGiven}
 use Rattle.qs_ruletext.specs.Rules.{IsWellRead, IsWellReadIfGiven}
@@ -131,6 +131,7 @@ module _ (names : List (List ℕ)) (are : AreUtf8 names) where
   comparing_is : (word : Comparing) → IsUtf8 (spaced_word (comparing_word word))
   comparing_is within = ascii_is (spaced_word (comparing_word within)) refl
   comparing_is outside = ascii_is (spaced_word (comparing_word outside)) refl
+  comparing_is same = ascii_is (spaced_word (comparing_word same)) refl
 
   joining_is : (word : Joining) → IsUtf8 (spaced_word (joining_word word))
   joining_is all = ascii_is (spaced_word (joining_word all)) refl

@@ -56,14 +56,14 @@ mutual
   more_conjs_whole no_more_conjs = no_more
   more_conjs_whole (one_more_conj e next more) = one_more (whole_sequence (whole_token e) (conj_whole next)) (more_conjs_whole more)
 
-  conj_whole : {names : List (List ℕ)} {text : List ℕ} {ts rest : List Token} {c : Condition} → ReadsConj names text ts c rest → IsWhole line (part conj) ts rest
+  pub conj_whole : {names : List (List ℕ)} {text : List ℕ} {ts rest : List Token} {c : Condition} → ReadsConj names text ts c rest → IsWhole line (part conj) ts rest
   conj_whole (reads_conj first more) = whole_part (whole_sequence (neg_whole first) (more_negs_whole more))
 
   more_negs_whole : {names : List (List ℕ)} {text : List ℕ} {ts rest : List Token} {cs : Conditions} → ReadsMoreNegs names text ts cs rest → IsWhole line (repeated (one (the_word Et) · part neg)) ts rest
   more_negs_whole no_more_negs = no_more
   more_negs_whole (one_more_neg e next more) = one_more (whole_sequence (whole_token e) (neg_whole next)) (more_negs_whole more)
 
-  neg_whole : {names : List (List ℕ)} {text : List ℕ} {ts rest : List Token} {c : Condition} → ReadsNeg names text ts c rest → IsWhole line (part neg) ts rest
+  pub neg_whole : {names : List (List ℕ)} {text : List ℕ} {ts rest : List Token} {c : Condition} → ReadsNeg names text ts c rest → IsWhole line (part neg) ts rest
   neg_whole (not_negated p) = whole_part (whole_sequence left_out (prim_whole p))
   neg_whole (reads_negated e p) = whole_part (whole_sequence (not_left_out (whole_token e)) (prim_whole p))
 

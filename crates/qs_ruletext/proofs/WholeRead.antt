@@ -3,14 +3,14 @@ use Rattle.std.proofs.Common.{◌≡◌, ℕ, refl, sym, subst, ⊎_elim, inl, i
 use Rattle.std.specs.Prelude.{◌⊎◌, Option, Some, None}
 use Rattle.std.specs.List.{All}
 use Rattle.qs_lex.specs.declared.token.Token.{Token}
-use Rattle.qs_lex.specs.declared.token.Word.TheVariants.{Dans, Hors, Et, Ou, Non}
+use Rattle.qs_lex.specs.declared.token.Word.TheVariants.{Dans, Hors, Egal, Et, Ou, Non}
 use Rattle.qs_lex.specs.Grammar.{Sort, a_label, a_label_variable, a_tree_variable, a_forest_variable, the_word, opening, closing, comma, plus, slash, equals, stop, part, IsWhole}
 use Rattle.qs_lex.proofs.Stopping.{front_of}
 use Rattle.qs_lex.proofs.Meanings.{IsOne, is_one, AreMany, none_left, one_behind, Means, whole_means}
 use Rattle.qs_pattern.specs.declared.pattern.Head.{Head}
 use Rattle.qs_pattern.specs.declared.pattern.Head.TheVariants as head
 use Rattle.qs_pattern.specs.Patterns.{Patterns, no_pattern, node_first}
-use Rattle.qs_pattern.specs.Conditions.{within, outside, Condition, Conditions, compared}
+use Rattle.qs_pattern.specs.Conditions.{within, outside, same, Condition, Conditions, compared}
 use Rattle.qs_ruletext.specs.WrittenRules.{WrittenRule}
 use Rattle.qs_ruletext.specs.Grammar.{Part, rule, side, tree, list, item, cond, conj, neg, prim, line}
 use Rattle.qs_ruletext.specs.Reading.{IsHeadOf, ReadsTree, reads_node, reads_tree_variable, ReadsSubtrees, no_parentheses, nothing_inside, list_inside, ReadsList, reads_list, ReadsMoreItems, no_more_items, one_more_item, ReadsItem, reads_tree, reads_forest_variable, ReadsMoreTrees, no_more_trees, one_more_tree, ReadsSide, reads_side, ReadsCond, reads_cond, ReadsMoreConjs, no_more_conjs, one_more_conj, ReadsConj, reads_conj, ReadsMoreNegs, no_more_negs, one_more_neg, ReadsNeg, not_negated, reads_negated, ReadsPrim, reads_group, reads_compared}
@@ -52,15 +52,15 @@ module _ (names : List (List ℕ)) (text : List ℕ) where
   variable_head (is_one {t} e k) = let v = k.variable a_label_variable refl e in record { next = t; are = refl; head_is = head.Var v.0; of = v.1 }
 
   inside : {a b c d : List Token} → One opening a b → (b ≡ c) ⊎ ((p : Patterns) × ReadsList names text b p c) → One closing c d → (p : Patterns) × ReadsSubtrees names text a p d
-  inside (is_one {t} e k) (inl same) close = by same close
+  inside (is_one {t} e k) (inl alike) close = by alike close
     where
       by : {b c d : List Token} → b ≡ c → One closing c d → (p : Patterns) × ReadsSubtrees names text (t ∷ b) p d
-      by {d} same (is_one {t = u} f l) = (no_pattern, subst (λ us. ReadsSubtrees names text (t ∷ us) no_pattern d) (sym same) (nothing_inside e f))
+      by {d} alike (is_one {t = u} f l) = (no_pattern, subst (λ us. ReadsSubtrees names text (t ∷ us) no_pattern d) (sym alike) (nothing_inside e f))
   inside (is_one e k) (inr p) (is_one f l) = (p.0, list_inside e p.1 f)
 
   subtrees_of : {a d : List Token} → (a ≡ d) ⊎ ((b : List Token) × One opening a b × ((c : List Token) × ((b ≡ c) ⊎ ((p : Patterns) × ReadsList names text b p c)) × One closing c d))
       → (p : Patterns) × ReadsSubtrees names text a p d
-  subtrees_of {a} (inl same) = (no_pattern, subst (λ us. ReadsSubtrees names text a no_pattern us) same no_parentheses)
+  subtrees_of {a} (inl alike) = (no_pattern, subst (λ us. ReadsSubtrees names text a no_pattern us) alike no_parentheses)
   subtrees_of (inr h) = inside h.1 h.2.1 h.2.2
 
   node : {ts middle rest : List Token} → IsHead ts middle → (p : Patterns) × ReadsSubtrees names text middle p rest → (p : Patterns) × ReadsTree names text ts p rest
@@ -112,16 +112,17 @@ module _ (names : List (List ℕ)) (text : List ℕ) where
       by (is_one e k) p q = (_, one_more_neg e p.1 q.1)
 
   neg_of : {a b rest : List Token} → (a ≡ b) ⊎ One (the_word Non) a b → (c : Condition) × ReadsPrim names text b c rest → (c : Condition) × ReadsNeg names text a c rest
-  neg_of {rest} (inl same) p = (p.0, not_negated (subst (λ us. ReadsPrim names text us p.0 rest) (sym same) p.1))
+  neg_of {rest} (inl alike) p = (p.0, not_negated (subst (λ us. ReadsPrim names text us p.0 rest) (sym alike) p.1))
   neg_of (inr (is_one e k)) p = (_, reads_negated e p.1)
 
   group_of : {a b c d : List Token} → One opening a b → (p : Condition) × ReadsCond names text b p c → One closing c d → (p : Condition) × ReadsPrim names text a p d
   group_of (is_one e k) p (is_one f l) = (p.0, reads_group e p.1 f)
 
-  comparison_of : {a b c d : List Token} → (p : Patterns) × ReadsList names text a p b → One (the_word Dans) b c ⊎ One (the_word Hors) b c → (p : Patterns) × ReadsList names text c p d
+  comparison_of : {a b c d : List Token} → (p : Patterns) × ReadsList names text a p b → One (the_word Dans) b c ⊎ (One (the_word Hors) b c ⊎ One (the_word Egal) b c) → (p : Patterns) × ReadsList names text c p d
       → (p : Condition) × ReadsPrim names text a p d
   comparison_of p (inl (is_one e k)) q = (compared within p.0 q.0, reads_compared p.1 e q.1)
-  comparison_of p (inr (is_one e k)) q = (compared outside p.0 q.0, reads_compared p.1 e q.1)
+  comparison_of p (inr (inl (is_one e k))) q = (compared outside p.0 q.0, reads_compared p.1 e q.1)
+  comparison_of p (inr (inr (is_one e k))) q = (compared same p.0 q.0, reads_compared p.1 e q.1)
 
   prim_of : {ts rest : List Token} → Meaning prim ts rest → Meant prim ts rest
   prim_of (inl m) = group_of m.1 m.2.1 m.2.2
@@ -130,7 +131,7 @@ module _ (names : List (List ℕ)) (text : List ℕ) where
   -- ---- rules
 
   cond_of : {ts rest : List Token} → (ts ≡ rest) ⊎ ((b : List Token) × One slash ts b × ((c : Condition) × ReadsCond names text b c rest)) → (o : Option Condition) × ReadsCondIfGiven names text ts o rest
-  cond_of {ts} (inl same) = (None, subst (λ us. ReadsCondIfGiven names text ts None us) same no_cond)
+  cond_of {ts} (inl alike) = (None, subst (λ us. ReadsCondIfGiven names text ts None us) alike no_cond)
   cond_of (inr h) = by h.1 h.2
     where
       by : {a b c : List Token} → One slash a b → (p : Condition) × ReadsCond names text b p c → (o : Option Condition) × ReadsCondIfGiven names text a o c

@@ -2,7 +2,7 @@
 use Rattle.qs_lex.specs.Grammar.{a_label, a_label_variable, a_tree_variable, a_forest_variable, the_word, opening}
 use Rattle.qs_lex.specs.Grammar.{closing, comma, plus, slash, equals, stop, one, part, ◌·◌, ◌∣◌, optional, repeated}
 use Rattle.qs_lex.specs.Grammar.{Grammar}
-use Rattle.qs_lex.specs.declared.token.Word.TheVariants.{Dans, Hors, Et, Ou, Non}
+use Rattle.qs_lex.specs.declared.token.Word.TheVariants.{Dans, Hors, Egal, Et, Ou, Non}
 
 -- a rule; a side of it, a tree, a list of trees and an item of one; a condition, a conjunction, what may be negated,
 -- and what stands at the bottom of a condition
@@ -25,7 +25,7 @@ pub data Part : Type 0 where
 -- cond = conj { -OU- conj }
 -- conj = neg { -ET- neg }
 -- neg = [ -NON- ] prim
--- prim = "(" cond ")" | list ( -DANS- | -HORS- ) list
+-- prim = "(" cond ")" | list ( -DANS- | -HORS- | -EGAL- ) list. Texts of version 1 have no `-EGAL-`.
 abbrev pub line : Grammar Part
 line rule = part side · one equals · part side · optional (one slash · part cond) · one stop
 line side = part tree · repeated (one plus · part tree)
@@ -36,4 +36,5 @@ line item = part tree ∣ one a_forest_variable
 line cond = part conj · repeated (one (the_word Ou) · part conj)
 line conj = part neg · repeated (one (the_word Et) · part neg)
 line neg = optional (one (the_word Non)) · part prim
-line prim = one opening · part cond · one closing ∣ part list · (one (the_word Dans) ∣ one (the_word Hors)) · part list
+line prim = one opening · part cond · one closing
+    ∣ part list · (one (the_word Dans) ∣ one (the_word Hors) ∣ one (the_word Egal)) · part list

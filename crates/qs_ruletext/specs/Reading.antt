@@ -4,7 +4,7 @@ use Rattle.std.specs.Prelude.{◌≡◌, ℕ, List, ◌∷◌}
 use Rattle.qs_lex.specs.declared.token.Token.{Token}
 use Rattle.qs_lex.specs.declared.token.Kind.TheVariants.{Variable}
 use Rattle.qs_lex.specs.declared.token.Word.{Word}
-use Rattle.qs_lex.specs.declared.token.Word.TheVariants.{Dans, Hors, Et, Ou, Non}
+use Rattle.qs_lex.specs.declared.token.Word.TheVariants.{Dans, Hors, Egal, Et, Ou, Non}
 use Rattle.qs_lex.specs.Grammar.{Sort, a_label_variable, a_tree_variable, a_forest_variable, the_word, opening, closing}
 use Rattle.qs_lex.specs.Grammar.{comma, plus, IsOf}
 pub use Rattle.qs_reader.specs.Names.{IsLabelOf}
@@ -12,8 +12,8 @@ use Rattle.qs_pattern.specs.declared.variable.Var.{Var}
 use Rattle.qs_pattern.specs.declared.pattern.Head.{Head}
 use Rattle.qs_pattern.specs.declared.pattern.Head.TheVariants as head
 use Rattle.qs_pattern.specs.Patterns.{Patterns, no_pattern, node_first, tree_var_first, forest_var_first}
-use Rattle.qs_pattern.specs.Conditions.{Comparing, within, outside, all, any, Condition, Conditions, compared, negated}
-use Rattle.qs_pattern.specs.Conditions.{combined, no_condition, condition_first}
+use Rattle.qs_pattern.specs.Conditions.{Comparing, within, outside, same, all, any, Condition, Conditions, compared}
+use Rattle.qs_pattern.specs.Conditions.{negated, combined, no_condition, condition_first}
 
 -- the token is this variable, of this sort
 pub record IsVariableOf (sort : Sort) (t : Token) (v : Var) : Type 0 where
@@ -94,6 +94,7 @@ all_of c (condition_first d ds) = combined all (condition_first c (condition_fir
 abbrev pub comparing_word : Comparing → Word
 comparing_word within = Dans
 comparing_word outside = Hors
+comparing_word same = Egal
 
 mutual
   -- cond = conj { -OU- conj }
@@ -127,7 +128,7 @@ mutual
     reads_negated : {t : Token} {ts rest : List Token} {c : Condition}
         → IsOf (the_word Non) t → ReadsPrim names text ts c rest → ReadsNeg names text (t ∷ ts) (negated c) rest
 
-  -- prim = "(" cond ")" | list ( -DANS- | -HORS- ) list. Parentheses that group leave no trace.
+  -- prim = "(" cond ")" | list ( -DANS- | -HORS- | -EGAL- ) list. Parentheses that group leave no trace.
   pub data ReadsPrim (names : List (List ℕ)) (text : List ℕ) : List Token → Condition → List Token → Type 0 where
     reads_group : {t u : Token} {ts rest : List Token} {c : Condition}
         → IsOf opening t → ReadsCond names text ts c (u ∷ rest) → IsOf closing u → ReadsPrim names text (t ∷ ts) c rest

@@ -54,9 +54,13 @@ fn comparison(reader: &mut Reader<'_>, names: &mut Names) -> Result<Cond, TextEn
         let b = list(reader, names)?;
         return Ok(Cond::Within { a, b });
     }
-    reader.expect(Kind::Word(Word::Hors))?;
+    if reader.pass(Kind::Word(Word::Hors)) {
+        let b = list(reader, names)?;
+        return Ok(Cond::Outside { a, b });
+    }
+    reader.expect(Kind::Word(Word::Egal))?;
     let b = list(reader, names)?;
-    Ok(Cond::Outside { a, b })
+    Ok(Cond::Same { a, b })
 }
 
 /// A condition in parentheses, or two lists compared.

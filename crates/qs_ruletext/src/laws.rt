@@ -3,7 +3,7 @@
 ghost use Rattle.std.specs.Prelude.{◌≡◌, ℕ, ◌+◌, ◌↔◌, List, [], ◌++◌, length, map, drop};
 ghost use Rattle.std.specs.List.{All};
 ghost use Rattle.qs_lex.specs.declared.token.Token.{Token};
-ghost use Rattle.qs_lex.specs.Tokens.{Reads, AreTokensOf, IsTokenOf};
+ghost use Rattle.qs_lex.specs.Tokens.{version_of, Reads, AreTokensOf, IsTokenOf};
 ghost use Rattle.qs_lex.specs.Grammar.{part, repeated, IsWhole};
 ghost use Rattle.qs_tree.specs.Names.{AreDistinct};
 ghost use Rattle.qs_pattern.specs.Rules.{UnmarkedRule};
@@ -12,7 +12,7 @@ ghost use Rattle.qs_ruletext.specs.Grammar.{rule, line};
 ghost use Rattle.qs_ruletext.specs.Rules.{ReadsRule, ReadsWrittenRule, ReadsRules, IsWellRead, NoRuleAt};
 ghost use Rattle.qs_ruletext.specs.Endings.{NoRuleIn};
 ghost use Rattle.qs_ruletext.specs.Names.{NamesGrow};
-ghost use Rattle.qs_ruletext.specs.Written.{AreOnOneLine, written};
+ghost use Rattle.qs_ruletext.specs.Written.{AreOnOneLine, IsRuleToldIn, written};
 
 /// What is read is whole by the grammar.
 pub fn what_is_read_is_whole()
@@ -53,6 +53,14 @@ pub fn what_is_read_is_well_made()
         → ReadsRule names text ts r rest → IsWellRead (length names) r }
 {}
 
+/// Texts of version 2 tell each rule. A rule that was read from tokens of a text is one that texts of the version of
+/// this text tell.
+pub fn what_texts_tell()
+    ensures each { (r : UnmarkedRule) → IsRuleToldIn 2 r }
+    ensures read { (names : List (List ℕ)) (text : List ℕ) (ts rest : List Token) (r : UnmarkedRule)
+        → All (IsTokenOf text) ts → ReadsRule names text ts r rest → IsRuleToldIn (version_of text) r }
+{}
+
 /// Where no two names are equal, tokens are read in one way only: as one rule with one rest; and as the same rules,
 /// with the same bytes of their cells and the same rest, where both rests don't go on with a rule. No rule begins at a
 /// place exactly where the tokens from that place on don't go on with one.
@@ -66,20 +74,24 @@ pub fn one_reading()
     ensures place { (tokens : List Token) (at : ℕ) → NoRuleAt tokens at ↔ NoRuleIn (drop at tokens) }
 {}
 
-/// What is written of a rule is read as that rule, where the rule is as one that was read and no name has the end of a
-/// line. Alone it is the whole text. In a longer text, whatever stands before and behind it: where tokens are read from
-/// the place behind it on, tokens are read from its place on, and they are the rule and then those. Where no two names
-/// are equal, it is read as no other rule, so that two rules that are written alike are one.
+/// What is written of a rule is read as that rule, where the rule is as one that was read, no name has the end of a
+/// line, and texts of the version of the text in which it stands tell the rule. Alone it is the whole text, of version
+/// 1. In a longer text, whatever stands before and behind it: where tokens are read from the place behind it on, tokens
+/// are read from its place on, and they are the rule and then those. Where no two names are equal, it is read as no
+/// other rule, so that two rules that are written alike are one.
 pub fn what_is_written_is_read()
     ensures alone { (names : List (List ℕ)) (r : UnmarkedRule) → AreOnOneLine names → IsWellRead (length names) r
+        → IsRuleToldIn 1 r
         → (ts : List Token) × AreTokensOf (written names r) ts × ReadsRule names (written names r) ts r [] }
     ensures within { (names : List (List ℕ)) (before behind : List ℕ) (r : UnmarkedRule) (rest : List Token) (next : ℕ)
         → AreOnOneLine names → IsWellRead (length names) r
+        → IsRuleToldIn (version_of (before ++ (written names r ++ behind))) r
         → Reads (before ++ (written names r ++ behind)) (length before + length (written names r)) rest next
         → (ts : List Token) × Reads (before ++ (written names r ++ behind)) (length before) ts next
         × ReadsRule names (before ++ (written names r ++ behind)) ts r rest }
     ensures only { (names : List (List ℕ)) (r s : UnmarkedRule) (ts rest : List Token)
-        → AreDistinct names → AreOnOneLine names → IsWellRead (length names) r → AreTokensOf (written names r) ts
+        → AreDistinct names → AreOnOneLine names → IsWellRead (length names) r → IsRuleToldIn 1 r
+        → AreTokensOf (written names r) ts
         → ReadsRule names (written names r) ts s rest → (s ≡ r) × (rest ≡ []) }
 {}
 

@@ -95,7 +95,7 @@ fn tightness(condition: &Cond) -> u8
     ensures { result ≡ tightness (condition_of condition.now) }
 {
     match condition {
-        Cond::Within { .. } | Cond::Outside { .. } => 4,
+        Cond::Within { .. } | Cond::Outside { .. } | Cond::Same { .. } => 4,
         Cond::Not(_) => 3,
         Cond::All(_) => 2,
         Cond::Any(_) => 1,
@@ -109,6 +109,7 @@ fn word(condition: &Cond) -> &'static [u8]
     match condition {
         Cond::Within { .. } => b" -DANS- ",
         Cond::Outside { .. } => b" -HORS- ",
+        Cond::Same { .. } => b" -EGAL- ",
         Cond::Not(_) => b"-NON- ",
         Cond::All(_) => b" -ET- ",
         Cond::Any(_) => b" -OU- ",
@@ -130,7 +131,7 @@ fn append_condition(
     let outer = tightness(condition);
     let word = word(condition);
     match condition {
-        Cond::Within { a, b } | Cond::Outside { a, b } => {
+        Cond::Within { a, b } | Cond::Outside { a, b } | Cond::Same { a, b } => {
             append_patterns(alloc, names, a, b",", out)?;
             out.extend_from_slice(word)?;
             append_patterns(alloc, names, b, b",", out)

@@ -7,8 +7,8 @@ use base.Stored.{Gv, gnil, gcons}
 use Rattle.qs_pattern.specs.contracts.variable.Var as var
 use Rattle.qs_pattern.specs.contracts.pattern.Head as head
 use Rattle.qs_pattern.specs.Patterns.{Patterns, no_pattern, node_first, tree_var_first, forest_var_first}
-use Rattle.qs_pattern.specs.Conditions.{Comparing, within, outside, same, Joining, all, any, Condition, Conditions, compared}
-use Rattle.qs_pattern.specs.Conditions.{negated, combined, no_condition, condition_first}
+use Rattle.qs_pattern.specs.Conditions.{Comparing, within, outside, same, Joining, all, any, Condition, Conditions}
+use Rattle.qs_pattern.specs.Conditions.{compared, negated, combined, no_condition, condition_first}
 use Rattle.qs_pattern.specs.Rules.{Rule, UnmarkedRule, marked, unmarked}
 
 -- Marks that differ.

@@ -1,7 +1,7 @@
 -- What the private functions of the reader of rules promise.
 use Rattle.std.specs.Prelude.{◌≡◌, ℕ, ◌⊎◌, Bool, true, false, ◌||◌, List, ◌∷◌, Option}
 use Rattle.qs_lex.specs.declared.token.Token.{Token}
-use Rattle.qs_lex.specs.declared.token.Word.TheVariants.{Dans, Hors, Non}
+use Rattle.qs_lex.specs.declared.token.Word.TheVariants.{Dans, Hors, Egal, Non}
 use Rattle.qs_lex.specs.Grammar.{Sort, a_label, a_label_variable, a_tree_variable, a_forest_variable, the_word, opening}
 use Rattle.qs_lex.specs.Grammar.{closing, slash, sort_of, Form, one, part, ◌·◌, ◌∣◌, optional}
 use Rattle.qs_lex.specs.Expecting.{same_sort}
@@ -85,8 +85,11 @@ abbrev pub in_parentheses : Form Part
 in_parentheses = optional (one opening · optional (part list) · one closing)
 
 -- two lists, compared
+abbrev pub a_comparing_word : Form Part
+a_comparing_word = one (the_word Dans) ∣ one (the_word Hors) ∣ one (the_word Egal)
+
 abbrev pub a_comparison : Form Part
-a_comparison = part list · (one (the_word Dans) ∣ one (the_word Hors)) · part list
+a_comparison = part list · a_comparing_word · part list
 
 -- the condition of a rule, if it has one
 abbrev pub condition_if_any : Form Part
