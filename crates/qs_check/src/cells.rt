@@ -42,7 +42,7 @@ fn add_condition(condition: &Cond, out: &mut Vec<Head>) -> Result<(), AllocError
     ensures { OnOk result (out.new.items ≡ out.old.items ++ written_condition (condition_of condition.now)) }
 {
     match condition {
-        Cond::Within { a, b } | Cond::Outside { a, b } => {
+        Cond::Within { a, b } | Cond::Outside { a, b } | Cond::Same { a, b } => {
             add_patterns(a, out)?;
             add_patterns(b, out)?;
         }
