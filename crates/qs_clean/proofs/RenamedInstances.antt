@@ -14,7 +14,7 @@ use Rattle.qs_pattern.specs.Variables.{same_var}
 use Rattle.qs_pattern.specs.Patterns.{Patterns, no_pattern, node_first, tree_var_first, forest_var_first}
 use Rattle.qs_pattern.specs.Substitutions.{Substitution, value_of}
 use Rattle.qs_pattern.specs.Instances.{label_in, tree_in, trees_in, label_of, inst, IsLabel, IsHeadCovered, IsCovered}
-use Rattle.qs_pattern.specs.Conditions.{Comparing, within, outside, Compares, all, any, Condition, Conditions, compared, negated, combined, no_condition, condition_first, Holds, AllHold, SomeHolds, IsConditionCovered}
+use Rattle.qs_pattern.specs.Conditions.{Comparing, within, outside, same, Compares, all, any, Condition, Conditions, compared, negated, combined, no_condition, condition_first, Holds, AllHold, SomeHolds, IsConditionCovered}
 use Rattle.qs_pattern.specs.working.Conditions.{AreConditionsCovered}
 use Rattle.qs_clean.specs.Renaming.{IsRenaming, renamed_label, renamed_forest, renamed_tree, renamed_head, renamed_patterns, renamed_condition, renamed_conditions}
 use Rattle.qs_clean.specs.working.Renaming.{renamed_value, renamed_substitution}
@@ -98,6 +98,13 @@ module _ {X : Type 0} (there back : X → X) (undone : (x : X) → back (there x
     (λ h x i k. h (there x) (in_map there xs x i) (in_map there ys x k)),
   )
 
+  same_map : (xs ys : List X) → (xs ≡ ys) ↔ (map there xs ≡ map there ys)
+  same_map xs ys = ((λ e. ap (map there) e), (λ e. sym (undone_each xs) ∙ ap (map back) e ∙ undone_each ys))
+    where
+      undone_each : (zs : List X) → map back (map there zs) ≡ zs
+      undone_each [] = refl
+      undone_each (z ∷ zs) = λ i. undone z i ∷ undone_each zs i
+
 module _ (f g : ℕ → ℕ) (is : IsRenaming f g) (s : Substitution) where
   abbrev renamed : Substitution
   renamed = renamed_substitution f s
@@ -108,6 +115,7 @@ module _ (f g : ℕ → ℕ) (is : IsRenaming f g) (s : Substitution) where
   compared_map : (word : Comparing) (ts us : List Tree) → Compares word ts us ↔ Compares word (map (renamed_tree f) ts) (map (renamed_tree f) us)
   compared_map within ts us = within_map (renamed_tree f) (renamed_tree g) undone ts us
   compared_map outside ts us = outside_map (renamed_tree f) (renamed_tree g) undone ts us
+  compared_map same ts us = same_map (renamed_tree f) (renamed_tree g) undone ts us
 
   compared_renamed : (word : Comparing) (a b : Patterns) → IsCovered s a → IsCovered s b
       → Holds (compared word a b) s ↔ Holds (compared word (renamed_patterns f a) (renamed_patterns f b)) renamed
