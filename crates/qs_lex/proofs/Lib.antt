@@ -11,6 +11,7 @@ pub mod Standing
 pub mod Borders
 pub mod Columns
 pub mod Lexed
+pub mod Heading
 pub mod Readings
 pub mod Refusing
 pub mod OpenParentheses
