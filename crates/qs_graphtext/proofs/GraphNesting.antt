@@ -13,7 +13,7 @@ use Rattle.qs_tree.specs.Text.{name_of, label_text, in_parentheses, behind_comma
 use Rattle.qs_graph.specs.Graphs.{Arc, QGraph}
 use Rattle.qs_pattern.specs.declared.pattern.Head.TheVariants as head
 use Rattle.qs_ruletext.specs.Written.{AreOnOneLine}
-use Rattle.qs_ruletext.proofs.ReadBack.{Goes, turned, space, end_of_line, token}
+use Rattle.qs_ruletext.proofs.ReadBack.{Goes, turned, space, end_of_line, token, first_version}
 use Rattle.qs_ruletext.proofs.Nesting.{Fits}
 use Rattle.qs_ruletext.proofs.NestingSteps.{keeps, head_keeps, Shows, shows_less, shows_none, shows_one, shows_both, shows_behind, shows_group, Opens, opens_none}
 use Rattle.qs_ruletext.proofs.NestingWritten.{goes_less, none_goes, both_go, one_goes, group_goes, OpensUpTo, head_opens}
@@ -116,7 +116,7 @@ module _ (text : List ℕ) where
   behind_go : (trees : Forest) (piece : List ℕ) → OpensUpTo text (forest_height trees) piece → OpensUpTo text (forest_height trees) (behind_comma trees piece)
   behind_go no_tree piece go left c = none_goes text 0 left
   behind_go (first_tree l k r) piece go left c =
-      both_go text (codes ",") piece left (one_goes text _ Comma (codes ",") (codes ",") (piece ++ left) (λ m. refl) (token text Comma (codes ",") (piece ++ left) refl tt refl)) (go left c)
+      both_go text (codes ",") piece left (one_goes text _ Comma (codes ",") (codes ",") (piece ++ left) (λ m. refl) (token text Comma tt (codes ",") (piece ++ left) refl tt refl)) (go left c)
 
   -- something and the end of its line
   pub lined : {n : ℕ} (piece left : List ℕ) → Goes text (Opens n) piece (codes "\n" ++ left) → Goes text (Opens n) (line piece) left
@@ -127,7 +127,7 @@ module _ (text : List ℕ) where
   space_goes n left = turned text (codes " ") left (λ ts rest e. opens_none n e) (space text left)
 
   mark_goes : (n number : ℕ) (left : List ℕ) → (1 ≤ number) × (number ≤ 999999999) → Goes text (Opens n) (node_mark number) left
-  mark_goes n number left fits = one_goes text n (Node number) (node_mark number) (node_mark number) left (λ m. refl) (token text (Node number) (node_mark number) left (fits.0, fits.1, refl) tt refl)
+  mark_goes n number left fits = one_goes text n (Node number) (node_mark number) (node_mark number) left (λ m. refl) (token text (Node number) tt (node_mark number) left (fits.0, fits.1, refl) tt refl)
 
   module _ (names : List (List ℕ)) (names_line : AreOnOneLine names) where
     -- trees, a tree, and the arcs that carry them
@@ -169,7 +169,7 @@ module _ (text : List ℕ) where
         (space_goes _ (last ++ end))
         (both_go text (node_mark arc.to) (codes ".") end
         (mark_goes _ arc.to (codes "." ++ end) w.to)
-        (one_goes text _ Stop (codes ".") (codes ".") end (λ m. refl) (token text Stop (codes ".") end refl tt refl)))))))
+        (one_goes text _ Stop (codes ".") (codes ".") end (λ m. refl) (token text Stop tt (codes ".") end refl tt refl)))))))
 
     arcs_open : (arcs : List Arc) → ((arc : Arc) → arc ∈ arcs → IsWritable (length names) arc) → (left : List ℕ)
         → Goes text (Opens (trees_height (map (λ arc. arc.tree) arcs))) (flat_map (arc_line names) arcs) left
@@ -188,10 +188,10 @@ module _ (text : List ℕ) where
         let end : List ℕ = line (codes "-FIN-") in
         both_go text (line (codes "-GRAPHE-")) (arcs ++ end) left
         (lined (codes "-GRAPHE-") ((arcs ++ end) ++ left)
-        (one_goes text _ (a_word Graphe) (codes "-GRAPHE-") (codes "-GRAPHE-") (codes "\n" ++ ((arcs ++ end) ++ left)) (λ m. refl) (token text (a_word Graphe) (codes "-GRAPHE-") (codes "\n" ++ ((arcs ++ end) ++ left)) refl tt refl)))
+        (one_goes text _ (a_word Graphe) (codes "-GRAPHE-") (codes "-GRAPHE-") (codes "\n" ++ ((arcs ++ end) ++ left)) (λ m. refl) (token text (a_word Graphe) (first_version text) (codes "-GRAPHE-") (codes "\n" ++ ((arcs ++ end) ++ left)) refl tt refl)))
         (both_go text arcs end left
         (arcs_open G.arcs w (end ++ left))
-        (lined (codes "-FIN-") left (one_goes text _ (a_word Fin) (codes "-FIN-") (codes "-FIN-") (codes "\n" ++ left) (λ m. refl) (token text (a_word Fin) (codes "-FIN-") (codes "\n" ++ left) refl tt refl))))
+        (lined (codes "-FIN-") left (one_goes text _ (a_word Fin) (codes "-FIN-") (codes "-FIN-") (codes "\n" ++ left) (λ m. refl) (token text (a_word Fin) (first_version text) (codes "-FIN-") (codes "\n" ++ left) refl tt refl))))
 
 -- the same in plain words: where as many more parentheses as the trees need may be open, and what stands behind the graph fits,
 -- the graph and what stands behind it do

@@ -9,7 +9,7 @@ use Rattle.qs_tree.specs.Lists.{◌∈◌}
 use Rattle.qs_tree.specs.Text.{tree_text, IsNamed}
 use Rattle.qs_graph.specs.Graphs.{Arc, QGraph}
 use Rattle.qs_ruletext.specs.Written.{AreOnOneLine}
-use Rattle.qs_ruletext.proofs.ReadBack.{Goes, IsOne, Both, both, turned, nothing, space, end_of_line, token}
+use Rattle.qs_ruletext.proofs.ReadBack.{Goes, IsOne, Both, both, turned, nothing, space, end_of_line, token, first_version}
 use Rattle.qs_graphtext.specs.WrittenChains.{WrittenChain}
 use Rattle.qs_graphtext.specs.Texts.{line, node_mark, arc_line, graph_text}
 use Rattle.qs_graphtext.specs.ChainsOfArcs.{IsChainOf, AreChainsOf}
@@ -29,7 +29,7 @@ module _ (text : List ℕ) where
       turned text (piece ++ codes "\n") left (λ ts rest x. subst (λ us. Are ts us) x.2 x.1) (both text piece (codes "\n") left goes (end_of_line text left))
 
   mark_goes : (n : ℕ) (left : List ℕ) → (1 ≤ n) × (n ≤ 999999999) → Goes text (IsOne text (Node n) (node_mark n)) (node_mark n) left
-  mark_goes n left fits = token text (Node n) (node_mark n) left (fits.0, fits.1, refl) tt refl
+  mark_goes n left fits = token text (Node n) tt (node_mark n) left (fits.0, fits.1, refl) tt refl
 
 module _ (names : List (List ℕ)) (text : List ℕ) where
   -- these tokens are read as the chain of this arc
@@ -89,7 +89,7 @@ module _ (names : List (List ℕ)) (text : List ℕ) where
         (space text (last ++ end))
         (both text (node_mark arc.to) (codes ".") end
         (mark_goes text arc.to (codes "." ++ end) w.to)
-        (token text Stop (codes ".") end refl tt refl)))))))
+        (token text Stop tt (codes ".") end refl tt refl)))))))
 
     arcs_go : (arcs : List Arc) → ((arc : Arc) → arc ∈ arcs → IsWritable (length names) arc) → (left : List ℕ) → Goes text (AreArcs arcs) (flat_map (arc_line names) arcs) left
     arcs_go [] w left = turned text [] left (λ ts rest e. ([], tt, subst (λ us. ReadsMoreChains names text ts [] us) e no_more_chains)) (nothing text left)
@@ -111,7 +111,7 @@ module _ (names : List (List ℕ)) (text : List ℕ) where
         let reads = some_chains G.arcs chains.0 some chains.1 (subst (λ us. ReadsMoreChains names text x.0 chains.0 us) last.1 chains.2) in
         (chains.0, chains.1, subst (λ us. ReadsGraph names text us chains.0 rest) (sym first.1) (reads_graph (ap sort_of first.2) reads (ap sort_of last.2))))
         (both text (line (codes "-GRAPHE-")) (arcs ++ end) left
-        (lined text (codes "-GRAPHE-") ((arcs ++ end) ++ left) (token text (a_word Graphe) (codes "-GRAPHE-") (codes "\n" ++ ((arcs ++ end) ++ left)) refl tt refl))
+        (lined text (codes "-GRAPHE-") ((arcs ++ end) ++ left) (token text (a_word Graphe) (first_version text) (codes "-GRAPHE-") (codes "\n" ++ ((arcs ++ end) ++ left)) refl tt refl))
         (both text arcs end left
         (arcs_go G.arcs w (end ++ left))
-        (lined text (codes "-FIN-") left (token text (a_word Fin) (codes "-FIN-") (codes "\n" ++ left) refl tt refl))))
+        (lined text (codes "-FIN-") left (token text (a_word Fin) (first_version text) (codes "-FIN-") (codes "\n" ++ left) refl tt refl))))

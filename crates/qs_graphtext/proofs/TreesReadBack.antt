@@ -64,8 +64,8 @@ module _ (names : List (List ℕ)) (text : List ℕ) (line : AreOnOneLine names)
       let inside = subst (λ us. ReadsPlains names text x.0 (first_tree l k r) us) x.2.2.1 x.2.1 in
       subst (λ us. ReadsSubtrees names text us (first_tree l k r) rest) (sym x.1.1) (plains_inside (ap sort_of x.1.2) inside (ap sort_of x.2.2.2)))
       (both text (codes "(") (written ++ codes ")") left
-      (token text Opening (codes "(") ((written ++ codes ")") ++ left) refl tt refl)
-      (both text written (codes ")") left (goes (codes ")" ++ left) refl) (token text Closing (codes ")") left refl tt refl)))
+      (token text Opening tt (codes "(") ((written ++ codes ")") ++ left) refl tt refl)
+      (both text written (codes ")") left (goes (codes ")" ++ left) refl) (token text Closing tt (codes ")") left refl tt refl)))
 
   -- trees behind a comma
   more_goes : (l : Label) (k r : Forest) → PlainsGo (first_tree l k r) → MoreGo (first_tree l k r)
@@ -73,7 +73,7 @@ module _ (names : List (List ℕ)) (text : List ℕ) (line : AreOnOneLine names)
       let written : List ℕ = forest_text names (first_tree l k r) in
       turned text (codes "," ++ written) left
       (λ ts rest x. subst (λ us. ReadsMorePlains names text us (first_tree l k r) rest) (sym x.1.1) (one_of (ap sort_of x.1.2) x.2))
-      (both text (codes ",") written left (token text Comma (codes ",") (written ++ left) refl tt refl) (goes left c))
+      (both text (codes ",") written left (token text Comma tt (codes ",") (written ++ left) refl tt refl) (goes left c))
     where
       one_of : {t : Token} {ts rest : List Token} → sort_of t.kind ≡ sort_of Comma → ReadsPlains names text ts (first_tree l k r) rest → ReadsMorePlains names text (t ∷ ts) (first_tree l k r) rest
       one_of is (reads_plains first behind) = one_more_plain is first behind
