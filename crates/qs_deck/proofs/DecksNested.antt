@@ -14,11 +14,12 @@ use Rattle.qs_pattern.specs.declared.pattern.Head.TheVariants as head
 use Rattle.qs_pattern.specs.Rules.{Rule, unmarked}
 use Rattle.qs_ruletext.specs.WrittenRules.{WrittenRule}
 use Rattle.qs_ruletext.specs.Rules.{ReadsRules, IsWellRead}
-use Rattle.qs_ruletext.specs.Written.{AreOnOneLine, written}
-use Rattle.qs_ruletext.proofs.ReadBack.{Goes, turned, space, token}
+use Rattle.qs_ruletext.specs.Written.{AreOnOneLine, IsRuleToldIn, written}
+use Rattle.qs_ruletext.proofs.ReadBack.{Goes, turned, space, token, first_version}
 use Rattle.qs_ruletext.proofs.HeadsReadBack.{head_goes}
 use Rattle.qs_ruletext.proofs.Nesting.{rule_height}
 use Rattle.qs_ruletext.proofs.NestingSteps.{keeps, head_keeps, Shows, shows_none, shows_both, shows_behind, Opens, opens_none, opens_one}
+use Rattle.qs_ruletext.proofs.Telling.{rule_later}
 use Rattle.qs_ruletext.proofs.NestingRead.{rule_shows}
 use Rattle.qs_ruletext.proofs.NestingWritten.{goes_less, none_goes, both_go, one_goes, rule_opens}
 use Rattle.qs_graph.specs.Graphs.{Arc, QGraph}
@@ -67,15 +68,16 @@ deck_shows {names} {text} {ts} {d = d} r = shows_both (systems_show names text d
 -- what is written opens no more
 
 module _ (names : List (List ℕ)) (text : List ℕ) (names_line : AreOnOneLine names) where
-  rules_open : (rules : List Rule) → ((rule : Rule) → rule ∈ rules → IsWellRead (length names) (unmarked rule)) → (left : List ℕ)
+  rules_open : (rules : List Rule) → ((rule : Rule) → rule ∈ rules → IsWellRead (length names) (unmarked rule))
+      → ((rule : Rule) → rule ∈ rules → IsRuleToldIn 1 (unmarked rule)) → (left : List ℕ)
       → Goes text (Opens (rules_height rules)) (flat_map (rule_line names) rules) left
-  rules_open [] w left = none_goes text 0 left
-  rules_open (r ∷ rules) w left =
+  rules_open [] w told left = none_goes text 0 left
+  rules_open (r ∷ rules) w told left =
       let others : List ℕ = flat_map (rule_line names) rules in
       both_go text (rule_line names r) others left
       (goes_less text (rule_line names r) (others ++ left)
-      (lined text (written names (unmarked r)) (others ++ left) (rule_opens text names names_line (unmarked r) (w r (inl refl)) (codes "\n" ++ (others ++ left)))) (omega arith))
-      (goes_less text others left (rules_open rules (λ rule i. w rule (inr i)) left) (omega arith))
+      (lined text (written names (unmarked r)) (others ++ left) (rule_opens text names names_line (unmarked r) (w r (inl refl)) (rule_later (first_version text) (unmarked r) (told r (inl refl))) (codes "\n" ++ (others ++ left)))) (omega arith))
+      (goes_less text others left (rules_open rules (λ rule i. w rule (inr i)) (λ rule i. told rule (inr i)) left) (omega arith))
 
   heading_opens : (n : ℕ) (name : Label) → name.0 < length names → (left : List ℕ)
       → Goes text (Opens n) (codes "-SYSTEME- " ++ (label_text (name_of names name) ++ codes ".")) left
@@ -83,14 +85,14 @@ module _ (names : List (List ℕ)) (text : List ℕ) (names_line : AreOnOneLine 
       let label : List ℕ = label_text (name_of names name) in
       let behind_word : List ℕ = codes " " ++ (label ++ codes ".") in
       both_go text (codes "-SYSTEME-") behind_word left
-      (one_goes text n (a_word Systeme) (codes "-SYSTEME-") (codes "-SYSTEME-") (behind_word ++ left) (λ m. refl) (token text (a_word Systeme) (codes "-SYSTEME-") (behind_word ++ left) refl tt refl))
+      (one_goes text n (a_word Systeme) (codes "-SYSTEME-") (codes "-SYSTEME-") (behind_word ++ left) (λ m. refl) (token text (a_word Systeme) (first_version text) (codes "-SYSTEME-") (behind_word ++ left) refl tt refl))
       (both_go text (codes " ") (label ++ codes ".") left
       (turned text (codes " ") ((label ++ codes ".") ++ left) (λ ts rest e. opens_none n e) (space text ((label ++ codes ".") ++ left)))
       (both_go text label (codes ".") left
       (turned text label (codes "." ++ left)
       (λ ts rest x. subst (λ us. Opens n us rest) (sym x.1) (opens_one n x.0 rest (head_keeps names text x.0 (head.Label name) x.2)))
       (head_goes text names (head.Label name) (codes "." ++ left) names_line within tt refl))
-      (one_goes text n Stop (codes ".") (codes ".") left (λ m. refl) (token text Stop (codes ".") left refl tt refl))))
+      (one_goes text n Stop (codes ".") (codes ".") left (λ m. refl) (token text Stop tt (codes ".") left refl tt refl))))
 
   grammar_opens : (grammar : Grammar) → IsWritableGrammar (length names) grammar → (left : List ℕ)
       → Goes text (Opens (rules_height grammar.rules)) (grammar_text names grammar) left
@@ -99,7 +101,7 @@ module _ (names : List (List ℕ)) (text : List ℕ) (names_line : AreOnOneLine 
       let rules : List ℕ = flat_map (rule_line names) grammar.rules in
       both_go text (line heading) rules left
       (lined text heading (rules ++ left) (heading_opens (rules_height grammar.rules) grammar.name w.name (codes "\n" ++ (rules ++ left))))
-      (rules_open grammar.rules w.rules left)
+      (rules_open grammar.rules w.rules w.told left)
 
   grammars_open : (grammars : List Grammar) → ((grammar : Grammar) → grammar ∈ grammars → IsWritableGrammar (length names) grammar) → (left : List ℕ)
       → Goes text (Opens (grammars_height grammars)) (flat_map (grammar_text names) grammars) left

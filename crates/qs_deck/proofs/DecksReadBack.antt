@@ -15,9 +15,10 @@ use Rattle.qs_pattern.specs.Rules.{Rule, UnmarkedRule, marked, unmarked}
 use Rattle.qs_ruletext.specs.Reading.{IsLabelOf}
 use Rattle.qs_ruletext.specs.WrittenRules.{WrittenRule}
 use Rattle.qs_ruletext.specs.Rules.{ReadsRule, ReadsWrittenRule, ReadsRules, IsWellRead, cell_bytes}
-use Rattle.qs_ruletext.specs.Written.{AreOnOneLine, written}
-use Rattle.qs_ruletext.proofs.ReadBack.{Goes, Both, IsNone, IsOne, both, turned, nothing, space, token, alone}
+use Rattle.qs_ruletext.specs.Written.{AreOnOneLine, written, IsRuleToldIn}
+use Rattle.qs_ruletext.proofs.ReadBack.{Goes, Both, IsNone, IsOne, both, turned, nothing, space, token, alone, first_version}
 use Rattle.qs_ruletext.proofs.HeadsReadBack.{head_goes}
+use Rattle.qs_ruletext.proofs.Telling.{rule_later}
 use Rattle.qs_ruletext.proofs.RulesReadBack.{rule_goes}
 use Rattle.qs_ruletext.proofs.LabelTexts.{rule_passes}
 use Rattle.qs_graph.specs.Graphs.{Arc, QGraph, IsValid}
@@ -34,11 +35,12 @@ use Rattle.qs_deck.specs.Texts.{rule_line, grammar_text, deck_text}
 use Rattle.qs_deck.proofs.Places.{first_of}
 
 -- what is asked of a grammar, so that it can be written: its name is a label of the n first, and its rules are as those that
--- were read
+-- were read, and texts of version 1 tell them
 pub record IsWritableGrammar (n : ℕ) (grammar : Grammar) : Type 0 where
   pub name : grammar.name.0 < n
   pub rules : (rule : Rule) → rule ∈ grammar.rules → IsWellRead n (unmarked rule)
   pub without_mark : (rule : Rule) → rule ∈ grammar.rules → rule.unique ≡ false
+  pub told : (rule : Rule) → rule ∈ grammar.rules → IsRuleToldIn 1 (unmarked rule)
 
 -- the tokens before the rest are read as a deck that means these grammars, and whose chains, one for each arc, make this graph
 pub record ReadsBack (names : List (List ℕ)) (text : List ℕ) (ts : List Token) (grammars : List Grammar) (G : QGraph) (rest : List Token) : Type 0 where
@@ -76,26 +78,27 @@ module _ (names : List (List ℕ)) (text : List ℕ) (names_line : AreOnOneLine 
       let raw = with_bytes names text (unmarked r) ts x.0 x.1 in
       (raw.0 ∷ x.2.0, (λ i. marked (sym plain i) (raw.1 i) ∷ x.2.1 i), (x.0, raw.2, x.2.2))
 
-  rules_go : (rules : List Rule) → ((rule : Rule) → rule ∈ rules → IsWellRead (length names) (unmarked rule)) → ((rule : Rule) → rule ∈ rules → rule.unique ≡ false) → (left : List ℕ) → Goes text (AreRules rules) (flat_map (rule_line names) rules) left
-  rules_go [] w plain left = turned text [] left (λ ts rest e. ([], refl, e)) (nothing text left)
-  rules_go (r ∷ rules) w plain left =
+  rules_go : (rules : List Rule) → ((rule : Rule) → rule ∈ rules → IsWellRead (length names) (unmarked rule)) → ((rule : Rule) → rule ∈ rules → rule.unique ≡ false)
+      → ((rule : Rule) → rule ∈ rules → IsRuleToldIn 1 (unmarked rule)) → (left : List ℕ) → Goes text (AreRules rules) (flat_map (rule_line names) rules) left
+  rules_go [] w plain told left = turned text [] left (λ ts rest e. ([], refl, e)) (nothing text left)
+  rules_go (r ∷ rules) w plain told left =
       let others : List ℕ = flat_map (rule_line names) rules in
       turned text (rule_line names r ++ others) left (one_rule r (plain r (inl refl)) rules)
       (both text (rule_line names r) others left
-      (lined text (written names (unmarked r)) (others ++ left) (rule_goes names text names_line (unmarked r) (w r (inl refl)) (codes "\n" ++ (others ++ left))))
-      (rules_go rules (λ rule i. w rule (inr i)) (λ rule i. plain rule (inr i)) left))
+      (lined text (written names (unmarked r)) (others ++ left) (rule_goes names text names_line (unmarked r) (w r (inl refl)) (rule_later (first_version text) (unmarked r) (told r (inl refl))) (codes "\n" ++ (others ++ left))))
+      (rules_go rules (λ rule i. w rule (inr i)) (λ rule i. plain rule (inr i)) (λ rule i. told rule (inr i)) left))
 
   heading_goes : (name : Label) → name.0 < length names → (left : List ℕ) → Goes text (AreHeading name) (codes "-SYSTEME- " ++ (label_text (name_of names name) ++ codes ".")) left
   heading_goes name within left =
       let label : List ℕ = label_text (name_of names name) in
       let behind_word : List ℕ = codes " " ++ (label ++ codes ".") in
       both text (codes "-SYSTEME-") behind_word left
-      (token text (a_word Systeme) (codes "-SYSTEME-") (behind_word ++ left) refl tt refl)
+      (token text (a_word Systeme) (first_version text) (codes "-SYSTEME-") (behind_word ++ left) refl tt refl)
       (both text (codes " ") (label ++ codes ".") left
       (space text ((label ++ codes ".") ++ left))
       (both text label (codes ".") left
       (head_goes text names (head.Label name) (codes "." ++ left) names_line within tt refl)
-      (token text Stop (codes ".") left refl tt refl)))
+      (token text Stop tt (codes ".") left refl tt refl)))
 
   -- a system of a heading and rules
   one_grammar : (grammar : Grammar) (ts rest : List Token) → Both (AreHeading grammar.name) (AreRules grammar.rules) ts rest → AreGrammar grammar ts rest
@@ -117,7 +120,7 @@ module _ (names : List (List ℕ)) (text : List ℕ) (names_line : AreOnOneLine 
       turned text (line heading ++ rules) left (one_grammar grammar)
       (both text (line heading) rules left
       (lined text heading (rules ++ left) (heading_goes grammar.name w.name (codes "\n" ++ (rules ++ left))))
-      (rules_go grammar.rules w.rules w.without_mark left))
+      (rules_go grammar.rules w.rules w.without_mark w.told left))
 
   one_more_grammar : (grammar : Grammar) (grammars : List Grammar) (ts rest : List Token) → Both (AreGrammar grammar) (AreGrammars grammars) ts rest → AreGrammars (grammar ∷ grammars) ts rest
   one_more_grammar grammar grammars ts rest x = (x.1.0 ∷ x.2.0, (λ i. x.1.1 i ∷ x.2.1 i), (x.0, x.1.2, x.2.2))

@@ -18,6 +18,7 @@ pub mod OneDeck
 pub mod OneFault
 -- That what is written is read as it was.
 pub mod DecksReadBack
+pub mod RulesTold
 pub mod WritableDecks
 pub mod DecksNested
 pub mod DeckLabels

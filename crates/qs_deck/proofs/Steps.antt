@@ -3,7 +3,7 @@ use Rattle.std.proofs.Common.{◌≡◌, ℕ, zero, suc, ◌+◌, ◌-◌, ◌�
 use Rattle.std.specs.Prelude.{◌⊎◌, slice_get}
 use Rattle.std.proofs.lemmas.Bool.{false≢true}
 use Rattle.qs_lex.specs.declared.token.Token.{Token}
-use Rattle.qs_lex.specs.declared.token.Word.TheVariants.{Systeme, Graphe, Fin, Dans, Hors, Et, Ou, Non}
+use Rattle.qs_lex.specs.declared.token.Word.TheVariants.{Systeme, Graphe, Fin, Dans, Hors, Et, Ou, Non, Version, Egal, Unique}
 use Rattle.qs_lex.specs.Tokens.{IsLabel, AreTokensOf, IsTokenOf}
 use Rattle.qs_lex.specs.Grammar.{Sort, a_label, a_label_variable, a_tree_variable, a_forest_variable, a_node_mark, the_word, opening, closing, comma, plus, slash, equals, stop, sort_of, IsOf, Form, one, part, ◌·◌, repeated, Begins, begins_token, begins_part, begins_first, begins_this, begins_other}
 use Rattle.qs_lex.specs.Expecting.{same_sort, NextIsNo}
@@ -136,6 +136,9 @@ begins_tree_sort (the_word Hors) e = absurd (false≢true e)
 begins_tree_sort (the_word Et) e = absurd (false≢true e)
 begins_tree_sort (the_word Ou) e = absurd (false≢true e)
 begins_tree_sort (the_word Non) e = absurd (false≢true e)
+begins_tree_sort (the_word Version) e = absurd (false≢true e)
+begins_tree_sort (the_word Egal) e = absurd (false≢true e)
+begins_tree_sort (the_word Unique) e = absurd (false≢true e)
 begins_tree_sort opening e = absurd (false≢true e)
 begins_tree_sort closing e = absurd (false≢true e)
 begins_tree_sort comma e = absurd (false≢true e)

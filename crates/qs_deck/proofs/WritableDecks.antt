@@ -6,14 +6,15 @@ use Rattle.std.proofs.lemmas.Option.{slice_get-get_or}
 use Rattle.std.proofs.lemmas.Map.Made.{distinct_count-le}
 use Rattle.std.specs.Prelude.{nat_eq}
 use Rattle.qs_lex.specs.declared.token.Token.{Token}
-use Rattle.qs_lex.specs.Tokens.{AreTokensOf, IsTokenOf}
+use Rattle.qs_lex.specs.Tokens.{version_of, AreTokensOf, IsTokenOf}
 use Rattle.qs_tree.specs.Lists.{◌∈◌}
 use Rattle.qs_tree.specs.Names.{AreDistinct}
 use Rattle.qs_tree.proofs.Members.{from_map}
 use Rattle.qs_pattern.specs.Rules.{unmarked}
 use Rattle.qs_ruletext.specs.WrittenRules.{WrittenRule}
 use Rattle.qs_ruletext.specs.Rules.{IsWellRead}
-use Rattle.qs_ruletext.specs.Written.{AreOnOneLine}
+use Rattle.qs_ruletext.specs.Written.{AreOnOneLine, IsRuleToldIn}
+use Rattle.qs_ruletext.proofs.Telling.{rule_later}
 use Rattle.qs_ruletext.proofs.Naming.{grow_distinct}
 use Rattle.qs_ruletext.proofs.OneLine.{names_line}
 use Rattle.qs_graph.specs.Graphs.{QGraph, IsValid}
@@ -25,6 +26,7 @@ use Rattle.qs_graphtext.proofs.GraphsOfChains.{numbers_few}
 use Rattle.qs_deck.specs.WrittenDecks.{WrittenSystem, WrittenDeck}
 use Rattle.qs_deck.specs.Decks.{Grammar, rule_of, meaning_of, IsDeckOf}
 use Rattle.qs_deck.proofs.WhatIsRead.{systems_named}
+use Rattle.qs_deck.proofs.RulesTold.{systems_told, of_first_version}
 use Rattle.qs_deck.proofs.Meanings.{all_member, chains_whole, arcs_named}
 use Rattle.qs_deck.proofs.DecksReadBack.{IsWritableGrammar}
 
@@ -62,6 +64,9 @@ module _ {text : List ℕ} {names : List (List ℕ)} {grammars : List Grammar} {
   system_writable : (system : WrittenSystem) → system ∈ deck.systems → IsWritableGrammar (length names) (meaning_of system)
   system_writable system i =
       let w = is.is_written in
+      let all = tokens_are text w.tokens w.has_tokens.are_tokens in
+      let told = systems_told names text w.tokens (w.reads.first ∷ w.reads.behind) deck.systems all w.reads.systems system i in
+      let old = of_first_version names text w.tokens (w.reads.first ∷ w.reads.behind) deck.systems w.reads.some w.reads.systems w.has_tokens.are_tokens in
       let known = systems_named names text w.tokens (w.reads.first ∷ w.reads.behind) deck.systems w.reads.systems system i in
       record {
         name = known.0;
@@ -69,6 +74,9 @@ module _ {text : List ℕ} {names : List (List ℕ)} {grammars : List Grammar} {
             from_map rule_of system.rules (λ rule. IsWellRead (length names) (unmarked rule))
             (λ raw j. all_member (λ (r : WrittenRule). IsWellRead (length names) r.rule) system.rules raw known.1 j);
         without_mark = from_map rule_of system.rules (λ rule. rule.unique ≡ false) (λ raw j. refl);
+        told =
+            from_map rule_of system.rules (λ rule. IsRuleToldIn 1 (unmarked rule))
+            (λ raw j. rule_later old raw.rule (all_member (λ (r : WrittenRule). IsRuleToldIn (version_of text) r.rule) system.rules raw told j));
       }
 
   grammar_writable : (grammar : Grammar) → grammar ∈ grammars → IsWritableGrammar (length names) grammar
