@@ -29,16 +29,17 @@ rule_read n rule ok named full = record {
   condition = given_read n rule.condition ok.condition ok.members named.condition full;
 }
 
--- so the second part can be written, where no condition in it compares an empty list
+-- so the second part can be written, where no condition in it compares an empty list and texts of version 1 tell its rules
 pub back_writable : {names : List (List ℕ)} {graph : QGraph} {front back : List Grammar} → CanBeCut names graph front back
-    → ((grammar : Grammar) → grammar ∈ back → HaveFull grammar.rules) → (grammar : Grammar) → grammar ∈ back → IsWritableGrammar (length names) grammar
+    → ((grammar : Grammar) → grammar ∈ back → HaveFull 1 grammar.rules) → (grammar : Grammar) → grammar ∈ back → IsWritableGrammar (length names) grammar
 back_writable {front = front} {back = back} can full grammar i =
     let j = in_append_right front back grammar i in
     let named = can.named grammar j in
     record {
       name = named.0;
-      rules = λ rule k. rule_read _ rule (can.accepted grammar j rule k) (named.1 rule k) (full grammar i rule k);
+      rules = λ rule k. rule_read _ rule (can.accepted grammar j rule k) (named.1 rule k) (full grammar i rule k).0;
       without_mark = can.without_marks grammar i;
+      told = λ rule k. (full grammar i rule k).1;
     }
 
 -- a condition that was read has named labels

@@ -11,7 +11,8 @@ use Rattle.qs_tree.specs.Lists.{◌∈◌}
 use Rattle.qs_tree.specs.Names.{AreDistinct}
 use Rattle.qs_tree.specs.Text.{name_of}
 use Rattle.qs_tree.proofs.Members.{in_append_left, in_append_right}
-use Rattle.qs_pattern.specs.Rules.{Rule}
+use Rattle.qs_pattern.specs.Rules.{Rule, unmarked}
+use Rattle.qs_ruletext.proofs.Telling.{rule_later}
 use Rattle.qs_ruletext.specs.Names.{NamesGrow}
 use Rattle.qs_ruletext.specs.Written.{AreOnOneLine}
 use Rattle.qs_ruletext.proofs.LabelTexts.{texts_named, new_names_are_texts}
@@ -36,7 +37,8 @@ use Rattle.qsys.specs.Outcomes.{blocks, IsOutcome}
 use Rattle.qsys.specs.Cascading.{AreAccepted}
 use Rattle.qsys.specs.Pieces.{TwoPieces}
 use Rattle.qsys.proofs.Neighbours.{deck_chain}
-use Rattle.qsys.proofs.PassingDecks.{deck_passed}
+use Rattle.qs_deck.proofs.RulesTold.{of_first_version}
+use Rattle.qsys.proofs.PassingDecks.{HaveFull, deck_passed}
 use Rattle.qsys.proofs.OneLineNames.{total, one_line_names, as_many, are_on_one_line, keeps_lines, still_distinct, carries_back}
 use Rattle.qsys.proofs.Cutting.{back_writable}
 use Rattle.qsys.proofs.GoingOn.{all_accepted}
@@ -144,11 +146,15 @@ in_two_pieces p =
     deck_passed p.names lined (keeps_lines big p.names) p.back (λ grammar i. can.accepted grammar (in_append_right p.front p.back grammar i)) p.left valid w.tokens w.has_tokens.are_tokens
     ((deck_chain p.others (deck_text p.names p.back p.left) w.reads).chain stop refl)
     in
+    let old = of_first_version p.others (deck_text p.names p.back p.left) w.tokens (w.reads.first ∷ w.reads.behind) p.accepted.written.systems w.reads.some w.reads.systems w.has_tokens.are_tokens in
+    let full : (grammar : Grammar) → grammar ∈ p.back → HaveFull 1 grammar.rules =
+    λ grammar i rule j. let known = passed.full grammar i rule j in (known.0, rule_later old (unmarked rule) known.1)
+    in
     let many : n ≡ length lined = sym (as_many big p.names) in
     let line : AreOnOneLine lined = are_on_one_line big p.names in
     let distinct : AreDistinct lined = still_distinct big p.names can.names_differ (omega arith) in
     let writable : (grammar : Grammar) → grammar ∈ p.back → IsWritableGrammar (length lined) grammar =
-    λ grammar i. subst (λ (m : ℕ). IsWritableGrammar m grammar) many (back_writable can passed.full grammar i)
+    λ grammar i. subst (λ (m : ℕ). IsWritableGrammar m grammar) many (back_writable can full grammar i)
     in
     let arcs_named : AreArcsNamed (length lined) p.left.arcs = subst (λ (m : ℕ). AreArcsNamed m p.left.arcs) many named in
     let printed : IsDeckOf (deck_text lined p.back p.left) p.others p.more p.read = subst (λ (text : List ℕ). IsDeckOf text p.others p.more p.read) passed.alike p.accepted in

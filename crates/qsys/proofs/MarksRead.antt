@@ -9,7 +9,7 @@ use Rattle.std.proofs.lemmas.Fmt.{length-decimal-le}
 use Rattle.qs_lex.specs.Characters.{Each, is_label, is_variable_letter}
 use Rattle.qs_lex.specs.Spelling.{Spells, name_of}
 use Rattle.qs_lex.specs.declared.token.Word.{Word}
-use Rattle.qs_lex.specs.declared.token.Word.TheVariants.{Systeme, Graphe, Fin, Dans, Hors, Et, Ou, Non}
+use Rattle.qs_lex.specs.declared.token.Word.TheVariants.{Systeme, Graphe, Fin, Dans, Hors, Et, Ou, Non, Version, Egal, Unique}
 use Rattle.qs_lex.specs.declared.token.Kind.{Kind}
 use Rattle.qs_lex.specs.declared.token.Kind.TheVariants.{Bare, Quoted, Variable, Node, Word as a_word, Opening, Closing, Comma, Plus, Slash, Equals, Stop}
 
@@ -110,6 +110,9 @@ high_first Hors a = lit< tt
 high_first Et a = lit< tt
 high_first Ou a = lit< tt
 high_first Non a = lit< tt
+high_first Version a = lit< tt
+high_first Egal a = lit< tt
+high_first Unique a = lit< tt
 
 module _ (n : ℕ) (left : List ℕ) where
   -- only the mark of a number that is not too great can stand there

@@ -5,7 +5,7 @@ use Rattle.std.proofs.lemmas.Bool.{cond-true, cond-false}
 use Rattle.qs_lex.specs.declared.token.Token.{Token}
 use Rattle.qs_lex.specs.declared.token.Kind.{Kind}
 use Rattle.qs_lex.specs.declared.token.Kind.TheVariants.{Bare, Quoted, Node}
-use Rattle.qs_lex.specs.declared.token.Word.TheVariants.{Systeme, Graphe, Fin, Dans, Hors, Et, Ou, Non}
+use Rattle.qs_lex.specs.declared.token.Word.TheVariants.{Systeme, Graphe, Fin, Dans, Hors, Egal, Et, Ou, Non}
 use Rattle.qs_lex.specs.Spelling.{IsLabelText}
 use Rattle.qs_lex.specs.Tokens.{bytes_of}
 use Rattle.qs_lex.specs.Grammar.{Sort, a_label, a_label_variable, a_tree_variable, a_forest_variable, a_node_mark, the_word, opening, closing, comma, plus, slash, equals, stop, sort_of, IsOf}
@@ -14,7 +14,7 @@ use Rattle.qs_tree.specs.Trees.{Forest, Tree}
 use Rattle.qs_pattern.specs.declared.pattern.Head.{Head}
 use Rattle.qs_pattern.specs.declared.pattern.Head.TheVariants as head
 use Rattle.qs_pattern.specs.Patterns.{Patterns}
-use Rattle.qs_pattern.specs.Conditions.{Comparing, within, outside, Condition, Conditions}
+use Rattle.qs_pattern.specs.Conditions.{Comparing, within, outside, same, Condition, Conditions}
 use Rattle.qs_pattern.specs.Rules.{UnmarkedRule}
 use Rattle.qs_ruletext.specs.WrittenRules.{WrittenRule}
 use Rattle.qs_ruletext.specs.Reading.{IsLabelOf, IsHeadOf, ReadsTree, reads_node, reads_tree_variable, ReadsSubtrees, no_parentheses, nothing_inside, list_inside, ReadsList, reads_list, ReadsMoreItems, no_more_items, one_more_item, ReadsItem, reads_tree, reads_forest_variable, ReadsMoreTrees, no_more_trees, one_more_tree, ReadsSide, reads_side, ReadsCond, reads_cond, ReadsMoreConjs, no_more_conjs, one_more_conj, ReadsConj, reads_conj, ReadsMoreNegs, no_more_negs, one_more_neg, ReadsNeg, not_negated, reads_negated, ReadsPrim, reads_group, reads_compared, comparing_word}
@@ -31,6 +31,7 @@ use Rattle.qs_deck.specs.Reading.{ReadsSystem, reads_system, ReadsSystems, Reads
 abbrev pub compares : Sort → Bool
 compares (the_word Dans) = true
 compares (the_word Hors) = true
+compares (the_word Egal) = true
 compares _ = false
 
 -- a list may begin with it
@@ -127,6 +128,7 @@ close {t} {ts} of next = record {
 pub comparing_compares : (word : Comparing) → compares (the_word (comparing_word word)) ≡ true
 comparing_compares within = refl
 comparing_compares outside = refl
+comparing_compares same = refl
 
 -- behind the end of a list: a word that compares
 comparison : {t : Token} {ts : List Token} (s : Sort) → compares s ≡ true → IsOf s t → BehindAny ts → BehindEnd (t ∷ ts)

@@ -1,17 +1,22 @@
 -- A text that has tokens to its end, passed piece by piece from the left. At each piece it is known which token comes next, and
 -- which tokens may stand side by side.
-use Rattle.std.proofs.Common.{◌≡◌, ℕ, zero, suc, ◌-◌, ◌<◌, Bool, true, false, not, cond, refl, sym, ap, ◌∙◌, subst, List, [], ◌∷◌, ◌++◌, length, drop, arith, append_assoc, length-append, take-append-drop}
+use Rattle.std.proofs.Common.{◌≡◌, ℕ, zero, suc, ◌-◌, ◌<◌, ◌≤◌, Bool, true, false, not, cond, Ok, refl, sym, ap, ◌∙◌, subst, List, [], ◌∷◌, ◌++◌, length, drop, arith, append_assoc, length-append, take-append-drop}
 use Rattle.std.specs.List.{list_all}
 use Rattle.std.proofs.lemmas.Bool.{and_parts, or_parts}
 use Rattle.std.proofs.lemmas.Bool.Decides.{nat_tests}
 use Rattle.std.proofs.lemmas.List.{drop-drop}
 use Rattle.qs_lex.specs.Characters.{ends_line, is_label, Each}
-use Rattle.qs_lex.specs.Spelling.{between_quotes}
-use Rattle.qs_lex.specs.Tokens.{blank_len, next_place, bytes_of, StandsIn, Reads}
+use Rattle.qs_lex.specs.Spelling.{between_quotes, between_dashes, name_of as word_name, since, IsInVersion}
+use Rattle.qs_lex.specs.Tokens.{version_of, blank_len, next_place, bytes_of, StandsIn, Reads}
 use Rattle.qs_lex.specs.declared.token.Token.{Token}
 use Rattle.qs_lex.specs.declared.token.Kind.{Kind}
+use Rattle.qs_lex.specs.declared.token.Kind.TheVariants.{Word as a_word}
+use Rattle.qs_lex.specs.declared.token.Word.{Word}
+use Rattle.qs_lex.specs.working.Scan.{Found, scan}
 use Rattle.qs_lex.specs.Grammar.{Sort, sort_of}
 use Rattle.qs_lex.proofs.Choices.{each_from_all}
+use Rattle.qs_lex.proofs.Scanned.{scan_finds}
+use Rattle.qs_lex.proofs.Versions.{second_version, kind_in_second}
 use Rattle.qs_lex.proofs.Standing.{one_token, has_byte}
 use Rattle.qs_tree.specs.Text.{is_bare, is_label_byte, label_text}
 use Rattle.qs_pattern.specs.declared.pattern.Head.TheVariants as head
@@ -122,6 +127,19 @@ module _ (text : List ℕ) where
             r.1,
             ap (λ (bs : List ℕ). bytes_of text t ++ bs) (sym behind) ∙ take-append-drop (t.to - t.from) (drop t.from text) ∙ ap (λ (k : ℕ). drop k text) from ∙ left_there at.is,
           )
+
+  -- a word that stands there is one of the text's version
+  pub word_known : (before : Sort) (word : Word) (left : List ℕ) → IsAt text before (between_dashes (word_name word) ++ left) → since word ≤ version_of text
+  word_known before word left at =
+      let bytes : List ℕ = between_dashes (word_name word) in
+      let found = token_there before (bytes ++ left) (omega arith) refl at in
+      let t : Token = found.0 in
+      let this : scan 2 (bytes ++ left) ≡ Ok (a_word word, length bytes) = scan_finds 2 (a_word word) bytes left (second_version word) refl tt in
+      let that : scan 2 (bytes_of text t ++ drop t.to text) ≡ Ok (t.kind, length (bytes_of text t)) =
+      scan_finds 2 t.kind (bytes_of text t) (drop t.to text) (kind_in_second t.kind) found.1.spelled found.1.ended in
+      let alike : ◌≡◌ {A = Found} (Ok (t.kind, length (bytes_of text t))) (Ok (a_word word, length bytes)) = sym that ∙ ap (scan 2) found.2 ∙ this in
+      let pair : ◌≡◌ {A = Kind × ℕ} (t.kind, length (bytes_of text t)) (a_word word, length bytes) = cc in
+      subst (λ (k : Kind). IsInVersion (version_of text) k) (ap (λ (x : Kind × ℕ). x.0) pair) found.1.known
 
   line_of : (before : Sort) (name left : List ℕ) (bare : Bool) → is_bare name ≡ bare → Closes left → IsAt text before (cond bare name (between_quotes name) ++ left) → Each (λ b. not (ends_line b)) name
   line_of before name left true is closes at = labels_line name (each_from_all is_label name (and_parts _ (list_all is_label_byte name) is).1)

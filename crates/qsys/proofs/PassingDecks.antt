@@ -3,7 +3,7 @@
 use Rattle.std.proofs.Common.{◌≡◌, ℕ, ◌≤◌, refl, sym, ap, ◌∙◌, subst, inl, inr, ⊎_elim, List, [], ◌∷◌, ◌++◌, length, drop, codes, arith, append_assoc}
 use Rattle.std.specs.Prelude.{decimal, flat_map}
 use Rattle.std.proofs.lemmas.Bool.{cases_lt}
-use Rattle.qs_lex.specs.Tokens.{bytes_of, AreTokensOf, Reads}
+use Rattle.qs_lex.specs.Tokens.{version_of, bytes_of, AreTokensOf, Reads}
 use Rattle.qs_lex.specs.Grammar.{Sort, a_node_mark, the_word, opening, closing, comma, stop}
 use Rattle.qs_lex.specs.declared.token.Token.{Token}
 use Rattle.qs_lex.specs.declared.token.Kind.TheVariants.{Node, Word as a_word, Opening, Closing, Comma, Stop}
@@ -12,8 +12,8 @@ use Rattle.qs_tree.specs.Lists.{◌∈◌}
 use Rattle.qs_tree.specs.Trees.{Forest, no_tree, first_tree, Tree}
 use Rattle.qs_tree.specs.Text.{name_of, label_text, in_parentheses, behind_comma, forest_text, tree_text}
 use Rattle.qs_pattern.specs.Rules.{Rule, unmarked, IsAccepted}
-use Rattle.qs_ruletext.specs.Written.{written}
-use Rattle.qs_ruletext.proofs.ReadBack.{place, space, end_of_line, token}
+use Rattle.qs_ruletext.specs.Written.{IsRuleToldIn, written}
+use Rattle.qs_ruletext.proofs.ReadBack.{place, space, end_of_line, token, first_version}
 use Rattle.qs_ruletext.proofs.HeadsReadBack.{Closes}
 use Rattle.qs_graph.specs.Graphs.{Arc, QGraph, IsValid}
 use Rattle.qs_graphtext.specs.Texts.{line, node_mark, arc_line, graph_text}
@@ -29,16 +29,16 @@ use Rattle.qsys.proofs.PassingRules.{HasFullListsIfGiven, KeepsLines, label_pass
 abbrev Fits : Arc → Type 0
 Fits arc = (arc.from ≤ 999999999) × (arc.to ≤ 999999999)
 
--- no condition in these rules compares an empty list
-abbrev pub HaveFull : List Rule → Type 0
-HaveFull rules = (rule : Rule) → rule ∈ rules → HasFullListsIfGiven rule.condition
+-- no condition in these rules compares an empty list, and texts of this version tell the rules
+abbrev pub HaveFull : ℕ → List Rule → Type 0
+HaveFull version rules = (rule : Rule) → rule ∈ rules → HasFullListsIfGiven rule.condition × IsRuleToldIn version (unmarked rule)
 
 module _ (text : List ℕ) where
   end_passed : (before : Sort) (left : List ℕ) → IsAt text before (codes "\n" ++ left) → IsAt text before left
   end_passed before left at = pass_none text before (10 ∷ []) left (end_of_line text left) at
 
   stop_passed : (before : Sort) (left : List ℕ) → IsAt text before (codes "." ++ left) → IsAt text stop left
-  stop_passed before left at = (pass_kind text Stop (codes ".") before (codes ".") left (token text Stop (codes ".") left refl tt refl) at).1
+  stop_passed before left at = (pass_kind text Stop (codes ".") before (codes ".") left (token text Stop tt (codes ".") left refl tt refl) at).1
 
   -- a mark tells a number that is not too great, and is passed
   mark_passed : (n : ℕ) → 1 ≤ n → (before : Sort) (left : List ℕ) → IsAt text before (node_mark n ++ left) → (n ≤ 999999999) × IsAt text a_node_mark left
@@ -46,14 +46,14 @@ module _ (text : List ℕ) where
       let found = token_there text before (node_mark n ++ left) (omega arith) refl at in
       let t : Token = found.0 in
       let fits = number_fits n left t.kind (bytes_of text t) (drop t.to text) found.1.spelled (found.2 ∙ ap (λ bs. 45 ∷ bs) (append_assoc (decimal n) (45 ∷ []) left)) in
-      (fits, (pass_kind text (Node n) (node_mark n) before (node_mark n) left (token text (Node n) (node_mark n) left (some, fits, refl) tt refl) at).1)
+      (fits, (pass_kind text (Node n) (node_mark n) before (node_mark n) left (token text (Node n) tt (node_mark n) left (some, fits, refl) tt refl) at).1)
 
   module _ (names others : List (List ℕ)) (keeps : KeepsLines names others) where
     -- ---- rules and grammars
 
     rules_passed : (rules : List Rule) → ((rule : Rule) → rule ∈ rules → IsAccepted rule) → (before : Sort) (left : List ℕ)
         → IsAt text before (flat_map (rule_line names) rules ++ left)
-        → HaveFull rules × (flat_map (rule_line names) rules ≡ flat_map (rule_line others) rules) × IsBehind text left
+        → HaveFull (version_of text) rules × (flat_map (rule_line names) rules ≡ flat_map (rule_line others) rules) × IsBehind text left
     rules_passed [] accepted before left at = ((λ rule i. absurd i), refl, (before, at))
     rules_passed (r ∷ rules) accepted before left at =
         let ok = accepted r (inl refl) in
@@ -62,14 +62,14 @@ module _ (text : List ℕ) where
         let x = rule_passed text names others keeps (unmarked r) ok.left.in_class ok.right.in_class ok.condition before (codes "\n" ++ rest)
         (subst (IsAt text before) (append_assoc (rule_line names r) texts left ∙ append_assoc (written names (unmarked r)) (codes "\n") rest) at) in
         let y = rules_passed rules (λ rule i. accepted rule (inr i)) stop left (end_passed stop rest x.2) in (
-          λ rule i. ⊎_elim (λ e. subst (λ (s : Rule). HasFullListsIfGiven s.condition) (sym e) x.0) (y.0 rule) i,
+          λ rule i. ⊎_elim (λ e. subst (λ (s : Rule). HasFullListsIfGiven s.condition × IsRuleToldIn (version_of text) (unmarked s)) (sym e) x.0) (y.0 rule) i,
           (λ i. line (x.1 i) ++ y.1 i),
           y.2,
         )
 
     grammar_passed : (grammar : Grammar) → ((rule : Rule) → rule ∈ grammar.rules → IsAccepted rule) → (before : Sort) (left : List ℕ)
         → IsAt text before (grammar_text names grammar ++ left)
-        → HaveFull grammar.rules × (grammar_text names grammar ≡ grammar_text others grammar) × IsBehind text left
+        → HaveFull (version_of text) grammar.rules × (grammar_text names grammar ≡ grammar_text others grammar) × IsBehind text left
     grammar_passed grammar accepted before left at =
         let label : List ℕ = label_text (name_of names grammar.name) in
         let rules : List ℕ = flat_map (rule_line names) grammar.rules in
@@ -81,7 +81,7 @@ module _ (text : List ℕ) where
         ∙ append_assoc (codes "-SYSTEME- " ++ (label ++ codes ".")) (codes "\n") (rules ++ left)
         ∙ ap (λ bs. codes "-SYSTEME- " ++ bs) (append_assoc label (codes ".") rest))
         at in
-        let a = pass_kind text (a_word Systeme) (codes "-SYSTEME-") before (codes "-SYSTEME-") (32 ∷ (label ++ behind)) (token text (a_word Systeme) (codes "-SYSTEME-") (32 ∷ (label ++ behind)) refl tt refl) whole in
+        let a = pass_kind text (a_word Systeme) (codes "-SYSTEME-") before (codes "-SYSTEME-") (32 ∷ (label ++ behind)) (token text (a_word Systeme) (first_version text) (codes "-SYSTEME-") (32 ∷ (label ++ behind)) refl tt refl) whole in
         let b = pass_none text (the_word Systeme) (32 ∷ []) (label ++ behind) (space text (label ++ behind)) a.1 in
         let c = label_passed text names others keeps grammar.name (the_word Systeme) behind refl b in
         let d = end_passed stop (rules ++ left) (stop_passed c.1.0 rest c.1.1) in
@@ -90,13 +90,13 @@ module _ (text : List ℕ) where
 
     grammars_passed : (grammars : List Grammar) → ((grammar : Grammar) → grammar ∈ grammars → (rule : Rule) → rule ∈ grammar.rules → IsAccepted rule) → (before : Sort) (left : List ℕ)
         → IsAt text before (flat_map (grammar_text names) grammars ++ left)
-        → ((grammar : Grammar) → grammar ∈ grammars → HaveFull grammar.rules) × (flat_map (grammar_text names) grammars ≡ flat_map (grammar_text others) grammars) × IsBehind text left
+        → ((grammar : Grammar) → grammar ∈ grammars → HaveFull (version_of text) grammar.rules) × (flat_map (grammar_text names) grammars ≡ flat_map (grammar_text others) grammars) × IsBehind text left
     grammars_passed [] accepted before left at = ((λ grammar i. absurd i), refl, (before, at))
     grammars_passed (grammar ∷ grammars) accepted before left at =
         let texts : List ℕ = flat_map (grammar_text names) grammars in
         let x = grammar_passed grammar (accepted grammar (inl refl)) before (texts ++ left) (subst (IsAt text before) (append_assoc (grammar_text names grammar) texts left) at) in
         let y = grammars_passed grammars (λ other i. accepted other (inr i)) x.2.0 left x.2.1 in (
-          λ other i. ⊎_elim (λ e. subst (λ (g : Grammar). HaveFull g.rules) (sym e) x.0) (y.0 other) i,
+          λ other i. ⊎_elim (λ e. subst (λ (g : Grammar). HaveFull (version_of text) g.rules) (sym e) x.0) (y.0 other) i,
           (λ i. x.1 i ++ y.1 i),
           y.2,
         )
@@ -108,9 +108,9 @@ module _ (text : List ℕ) where
     parentheses_passed no_tree inside = λ before left closes at. (refl, (before, at))
     parentheses_passed (first_tree l k r) inside = λ before left closes at.
         let list : List ℕ = forest_text names (first_tree l k r) in
-        let x = pass_kind text Opening (codes "(") before (codes "(") ((list ++ codes ")") ++ left) (token text Opening (codes "(") ((list ++ codes ")") ++ left) refl tt refl) at in
+        let x = pass_kind text Opening (codes "(") before (codes "(") ((list ++ codes ")") ++ left) (token text Opening tt (codes "(") ((list ++ codes ")") ++ left) refl tt refl) at in
         let y = inside opening (codes ")" ++ left) refl (subst (IsAt text opening) (append_assoc list (codes ")") left) x.1) in
-        let z = pass_kind text Closing (codes ")") y.1.0 (codes ")") left (token text Closing (codes ")") left refl tt refl) y.1.1 in
+        let z = pass_kind text Closing (codes ")") y.1.0 (codes ")") left (token text Closing tt (codes ")") left refl tt refl) y.1.1 in
         (ap (λ bs. 40 ∷ (bs ++ 41 ∷ [])) y.0, (closing, z.1))
 
     comma_passed : (trees : Forest) → Shows text (forest_text names trees ≡ forest_text others trees) (forest_text names trees)
@@ -118,7 +118,7 @@ module _ (text : List ℕ) where
     comma_passed no_tree behind = λ before left closes at. (refl, (before, at))
     comma_passed (first_tree l k r) behind = λ before left closes at.
         let list : List ℕ = forest_text names (first_tree l k r) ++ left in
-        let x = pass_kind text Comma (codes ",") before (codes ",") list (token text Comma (codes ",") list refl tt refl) at in
+        let x = pass_kind text Comma (codes ",") before (codes ",") list (token text Comma tt (codes ",") list refl tt refl) at in
         let y = behind comma left closes x.1 in
         (ap (λ bs. 44 ∷ bs) y.0, y.1)
 
@@ -188,7 +188,7 @@ module _ (text : List ℕ) where
 
 -- what is known of a deck that was passed
 pub record IsPassed (names others : List (List ℕ)) (grammars : List Grammar) (G : QGraph) : Type 0 where
-  pub full : (grammar : Grammar) → grammar ∈ grammars → HaveFull grammar.rules
+  pub full : (grammar : Grammar) → grammar ∈ grammars → HaveFull (version_of (deck_text names grammars G)) grammar.rules
   pub alike : deck_text names grammars G ≡ deck_text others grammars G
   pub few : G.nodes ≤ 999999999
 
@@ -215,14 +215,14 @@ deck_passed names others keeps grammars accepted G valid ts are chain = record {
         let from : place text text ≡ 0 = omega arith in
         record { is = record { before = []; whole = refl }; tokens = ts; reads = subst (λ (k : ℕ). Reads text k ts (length text)) (sym from) are; chain = chain }
 
-    a : ((grammar : Grammar) → grammar ∈ grammars → HaveFull grammar.rules) × (flat_map (grammar_text names) grammars ≡ flat_map (grammar_text others) grammars) × IsBehind text graph
+    a : ((grammar : Grammar) → grammar ∈ grammars → HaveFull (version_of text) grammar.rules) × (flat_map (grammar_text names) grammars ≡ flat_map (grammar_text others) grammars) × IsBehind text graph
     a = grammars_passed text names others keeps grammars accepted stop graph start
 
     b : IsAt text (the_word Graphe) behind_word
     b =
         end_passed text (the_word Graphe) behind_word
         (pass_kind text (a_word Graphe) (codes "-GRAPHE-") a.2.0 (codes "-GRAPHE-") (codes "\n" ++ behind_word)
-        (token text (a_word Graphe) (codes "-GRAPHE-") (codes "\n" ++ behind_word) refl tt refl) a.2.1).1
+        (token text (a_word Graphe) (first_version text) (codes "-GRAPHE-") (codes "\n" ++ behind_word) refl tt refl) a.2.1).1
 
     c : ((arc : Arc) → arc ∈ G.arcs → Fits arc) × (flat_map (arc_line names) G.arcs ≡ flat_map (arc_line others) G.arcs)
     c =
