@@ -56,6 +56,7 @@ fn rules_end_where_the_next_token_begins_none(rt: HostRuntime) {
         // Labels with equal texts have one number.
         ("A + \"A\" == \"A\"(A,B).", 0, (1, 11, 2)),
         ("A == a / \"\" -DANS- A,\"a\".", 0, (1, 10, 3)),
+        ("-VERSION- 2. A(U*,V*) == B / U* -EGAL- V*.", 3, (1, 16, 2)),
     ];
     for (text, from, wanted) in rows {
         assert!(rt; text.len() <= 4_194_304);
@@ -75,6 +76,21 @@ fn each_cell_has_its_byte(rt: HostRuntime) {
     assert!(rt; rules[0].at.as_slice() == [0, 3, 6, 15, 21, 28, 38, 40].as_slice());
     assert!(rt; rules[1].left.len() == 1 && rules[1].right.len() == 3);
     assert!(rt; rules[1].at.as_slice() == [47, 55, 59, 63].as_slice());
+}
+
+#[test]
+fn each_word_that_compares_lists_is_written_as_it_was_read(rt: HostRuntime) {
+    let alloc = rt.alloc();
+    let rule = "A(U*) == B / U* -DANS- X -ET- U* -HORS- Y,X -ET- -NON- U* -EGAL- X,Y.";
+    let text = format!(in alloc; "-VERSION- 2.{rule}").expect(&rt, "a text");
+    assert!(rt; text.len() <= 4_194_304);
+    let mut names = Names::new(alloc);
+    let (rules, _) = read(&rt, alloc, &text, 3, &mut names);
+    let mut out = Vec::new(alloc);
+    for raw in &rules {
+        append_raw(alloc, raw, &names, &mut out).expect(&rt, "a rule's text");
+    }
+    assert!(rt; out.as_slice() == rule.as_bytes());
 }
 
 #[test]

@@ -18,6 +18,7 @@ fn a_text_without_fault_has_tokens(rt: HostRuntime) {
         ("U*1A", 2),
         ("\"\" \"#\"#\"", 2),
         ("É'_1+(a,b)/.", 9),
+        ("# é\n\t-VERSION- 2. -EGAL--UNIQUE--DANS-", 6),
     ];
     for (text, count) in rows {
         assert!(rt; text.len() <= 4_194_304);
