@@ -38,7 +38,7 @@ graph_stops ts from at c =
     let stops = part_stops table more ok graph tt (λ k. refl) passed
     (begins_in graphs.line line of_graphs graphs_are c.begins) (λ w. c.not_whole (whole_back graphs.line line of_graphs graphs_are (part graphs.graph) w))
     [] (drop at ts) (λ t us e b. c.no_further t (next_at ts us at t e) (begins_back graphs.line line of_graphs graphs_are (part graphs.graph) b)) in
-    subst (λ n. Stops line (graph ∷ []) (drop from ts) n) (length-drop at ts) (subst (λ us. Stops line (graph ∷ []) us (length (drop at ts))) (between_drop ts from at c.begun) stops)
+    subst (λ n. Stops line (graph ∷ []) (drop from ts) n) (length-drop at ts) (subst (λ us. Stops line (graph ∷ []) us (length (drop at ts))) (between_drop ts from at c.forward) stops)
 
 pub ends_in_graph : (text : List ℕ) (ts : List Token) (from at : ℕ) (systems : List WrittenSystem) (old new : List (List ℕ))
     → AreSystemsRead text ts systems from old new → NextIsNo (same_sort (the_word Systeme)) (drop from ts) → graph_ends.CannotGoOn ts from at

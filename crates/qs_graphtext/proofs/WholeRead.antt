@@ -110,8 +110,8 @@ module _ (names : List (List ℕ)) (text : List ℕ) where
 
   lines : (p : Part) (ts rest : List Token) → All (IsKnown names text) ts → IsWhole line (part p) ts rest → Meaning p ts rest → Meant p ts rest
   lines graph ts rest all w m =
-      let c = m.2.1 in let q = chains_of m.2.2.1 in graph_of m.1 (c.0 ∷ q.0, reads_chains c.1 q.1) m.2.2.2
-  lines chain ts rest all w m = chain_of m.1 (all_trees m.2.1 (trees_of m.2.2.1)) m.2.2.2.1 m.2.2.2.2
+      let c = m.2.1.1 in let q = chains_of m.2.1.2 in graph_of m.1 (c.0 ∷ q.0, reads_chains c.1 q.1) m.2.2
+  lines chain ts rest all w m = chain_of m.1 (all_trees m.2.1.1 (trees_of m.2.1.2)) m.2.2.1 m.2.2.2
   lines plain ts rest all w m = plain_of m.1 (subtrees_of m.2)
 
   -- a whole graph of known tokens is read

@@ -14,7 +14,7 @@ use Rattle.qs_reader.specs.Names.{KeepsNames, NamesGrow}
 use Rattle.qs_reader.specs.working.Names.{NamesGrowUpTo}
 use Rattle.qs_reader.specs.Readers.{Reading, rest_of, Passes, Stays, EndsHere, between}
 use Rattle.qs_reader.specs.working.Readers.{Reads, AToken, a_token, Nothing, nothing, Then, then, StopsOr}
-use Rattle.qs_reader.specs.working.Readers as begun
+use Rattle.qs_reader.specs.Readers as begun
 use Rattle.qs_reader.proofs.Steps.{token_read, left_out_read, then_read, read_so, read_at, member_read, part_read, token_ends, part_ends, first_ends, then_ends, member_ends}
 use Rattle.qs_reader.proofs.Lists.{none_read}
 use Rattle.qs_reader.proofs.Between.{between_drop, next_at, at_next, names_up_to, cannot_go_on}

@@ -21,12 +21,12 @@ pub returns-then-end-tokens-clause-ends : goal.returns-then-end-tokens-clause-en
 returns-then-end-tokens-clause-ends c =
     cannot_go_on c.args.tokens.now c.in_ok-chains.end
     (ends_behind_graph c.args.text.now c.args.tokens.now c.in_ok-systems.from c.in_ok-chains.end c.in_ok-systems.systems.items c.in_ok-chains.chains.items c.args.names.now c.systems.new.names c.read_chains.new.names
-    c.in_ok-systems.ensures.read c.in_ok-systems.ensures.last c.in_ok-chains.ensures.read (omega (arith, c.if-end-tokens.true)))
+    c.in_ok-systems.ensures.read c.in_ok-systems.ensures.last (c.in_ok-chains.ensures.read c.read_chains.new.names (λ k text e. e)) (omega (arith, c.if-end-tokens.true)))
 
 pub returns-clause-read : goal.returns-clause-read
 returns-clause-read c =
     whole_deck c.args.text.now c.args.tokens.now c.in_ok-systems.from c.in_ok-chains.end _ c.args.names.now c.systems.new.names c.read_chains.new.names _
-    c.in_ok-systems.ensures.read c.read_chains.ensures.keeps c.in_ok-chains.ensures.read (omega (arith, c.if-end-tokens.false)) refl
+    c.in_ok-systems.ensures.read c.read_chains.ensures.keeps (c.in_ok-chains.ensures.read c.read_chains.new.names (λ k text e. e)) (omega (arith, c.if-end-tokens.false)) refl
 
 pub returns-clause-made : goal.returns-clause-made
 returns-clause-made c =
