@@ -12,7 +12,7 @@ use Rattle.qs_tree.specs.Lists.{◌∈◌}
 use Rattle.qs_tree.specs.Text.{name_of, label_text}
 use Rattle.qs_pattern.specs.declared.pattern.Head.TheVariants as head
 use Rattle.qs_pattern.specs.Rules.{Rule, UnmarkedRule, marked, unmarked}
-use Rattle.qs_ruletext.specs.Reading.{IsLabelOf}
+use Rattle.qs_reader.specs.Names.{IsLabelOf}
 use Rattle.qs_ruletext.specs.WrittenRules.{WrittenRule}
 use Rattle.qs_ruletext.specs.Rules.{ReadsRule, ReadsWrittenRule, ReadsRules, IsWellRead, cell_bytes}
 use Rattle.qs_ruletext.specs.Written.{AreOnOneLine, written}

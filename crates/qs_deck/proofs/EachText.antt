@@ -78,7 +78,7 @@ not_empty : {A : Type 0} → false ≡ true → A
 not_empty e = absurd (false≢true e)
 
 falls : (p : Part) → Below rank (rank p) (line p)
-falls deck = (omega arith, λ e. not_empty e)
+falls deck = ((omega arith, λ e. not_empty e), λ e. not_empty e)
 falls system = (tt, λ e. not_empty e)
 falls (of_rules rules.rule) = (omega arith, λ e. not_empty e)
 falls (of_rules rules.side) = (omega arith, λ e. not_empty e)
@@ -99,7 +99,7 @@ syntax_decided ts = ⊎_elim (λ w. inl w) (λ s. inr (length ts - s.0, stopped 
     stopped : (left : ℕ) → Stops line (part deck ∷ []) ts left → CannotGoOn ts (length ts - left)
     stopped left s =
         let back : left ≡ length ts - (length ts - left) = omega (arith, s.left_is, ap length s.are ∙ length-append s.passed s.rest) in
-        cannot_go_on ts (length ts - left) (record { within = omega arith; stops = subst (λ n. Stops line (part deck ∷ []) ts n) back s })
+        cannot_go_on ts (length ts - left) (omega arith) (subst (λ n. Stops line (part deck ∷ []) ts n) back s)
 
 -- ---- checks
 

@@ -1,8 +1,6 @@
 -- Reading.
 pub mod Tables
 pub mod Steps
-pub mod Naming
-pub mod Systems
 pub mod Places
 pub mod Told
 -- Checking, and what a written deck means.

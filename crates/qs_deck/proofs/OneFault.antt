@@ -16,8 +16,8 @@ use Rattle.qs_lex.proofs.Readings as readings
 use Rattle.qs_tree.specs.Names.{AreDistinct}
 use Rattle.qs_pattern.specs.Rules.{IsAcceptable}
 use Rattle.qs_ruletext.specs.WrittenRules.{WrittenRule}
-use Rattle.qs_ruletext.specs.Names.{NamesGrow}
-use Rattle.qs_ruletext.proofs.Naming.{one_growth, grow_distinct}
+use Rattle.qs_reader.specs.Names.{NamesGrow}
+use Rattle.qs_reader.proofs.Naming.{one_growth, grow_distinct}
 use Rattle.qs_check.specs.declared.checking.CheckEnd.TheVariants.{Refused}
 use Rattle.qs_check.specs.Checking.{EndsWith}
 use Rattle.qs_check.proofs.Limits.{one_cause, none_if_accepted}

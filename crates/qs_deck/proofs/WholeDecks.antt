@@ -4,7 +4,7 @@ use Rattle.qs_lex.specs.declared.token.Token.{Token}
 use Rattle.qs_lex.specs.Grammar.{part, repeated, IsWhole, whole_token, whole_part, whole_sequence, no_more, one_more}
 use Rattle.qs_lex.proofs.Renaming.{whole_in}
 use Rattle.qs_ruletext.specs.Grammar as rules
-use Rattle.qs_ruletext.proofs.SideSteps.{label_sort}
+use Rattle.qs_reader.proofs.Tokens.{label_sort}
 use Rattle.qs_ruletext.proofs.Whole.{rules_whole}
 use Rattle.qs_graphtext.specs.Grammar as graphs
 use Rattle.qs_graphtext.proofs.Whole.{graph_whole}
@@ -25,7 +25,7 @@ deck_of_parts : (names : List (List ℕ)) (text : List ℕ) (systems : List Writ
     → IsWhole line (part (of_graphs graphs.graph)) middle rest → IsWhole line (part deck) ts rest
 deck_of_parts names text [] ts middle rest some h g = absurd (omega arith)
 deck_of_parts names text (s ∷ systems) ts middle rest some h g =
-    whole_part (whole_sequence (system_whole h.1) (whole_sequence (more_systems_whole names text systems h.0 middle h.2) g))
+    whole_part (whole_sequence (whole_sequence (system_whole h.1) (more_systems_whole names text systems h.0 middle h.2)) g)
 
 pub deck_whole : {names : List (List ℕ)} {text : List ℕ} {ts rest : List Token} {d : WrittenDeck} → ReadsDeck names text ts d rest → IsWhole line (part deck) ts rest
 deck_whole {names} {text} {ts} {rest} {d} r =

@@ -10,10 +10,8 @@ use Rattle.qs_lex.proofs.Meanings.{IsOne, is_one, AreMany, none_left, one_behind
 use Rattle.qs_ruletext.specs.WrittenRules.{WrittenRule}
 use Rattle.qs_ruletext.specs.Grammar as rules
 use Rattle.qs_ruletext.specs.Rules.{ReadsWrittenRule, ReadsRules}
-use Rattle.qs_ruletext.specs.Names.{NamesGrow}
-use Rattle.qs_ruletext.specs.working.Cursors.{Readable}
+use Rattle.qs_reader.specs.Names.{NamesGrow}
 use Rattle.qs_ruletext.proofs.KnownTokens.{IsKnown, all_known, names_grow}
-use Rattle.qs_ruletext.proofs.RulesRead.{readable_behind}
 use Rattle.qs_ruletext.proofs.WholeRead.{rule_read}
 use Rattle.qs_graphtext.specs.WrittenChains.{WrittenChain}
 use Rattle.qs_graphtext.specs.Grammar as graphs
@@ -24,6 +22,7 @@ use Rattle.qs_deck.specs.Grammar.{Part, deck, system, of_rules, of_graphs, line}
 use Rattle.qs_deck.specs.Reading.{ReadsSystem, reads_system, ReadsSystems, ReadsDeck}
 use Rattle.qs_deck.proofs.Tables.{rules_are, graphs_are}
 use Rattle.qs_deck.proofs.Places.{first_of}
+use Rattle.qs_deck.proofs.WritableDecks.{tokens_are}
 
 module _ (names : List (List ℕ)) (text : List ℕ) where
   abbrev One : Sort → List Token → List Token → Type 0
@@ -69,7 +68,7 @@ module _ (names : List (List ℕ)) (text : List ℕ) where
       )
 
   lines : (p : Part) (ts rest : List Token) → All (IsKnown names text) ts → IsWhole line (part p) ts rest → Meaning p ts rest → Meant p ts rest
-  lines deck ts rest all w m = deck_of m.1 (systems_of m.2.1) m.2.2
+  lines deck ts rest all w m = deck_of m.1.1 (systems_of m.1.2) m.2
   lines system ts rest all w m = system_of m.1 m.2.1 m.2.2.1 (rules_of m.2.2.2)
   lines (of_rules rules.rule) ts rest all w m = rule_read names text all (whole_back rules.line line of_rules rules_are (part rules.rule) w)
   lines (of_rules rules.side) ts rest all w m = tt
@@ -96,7 +95,7 @@ pub record IsReadDeck (text : List ℕ) (ts : List Token) : Type 0 where
 
 pub whole_is_read : (text : List ℕ) (ts : List Token) → AreTokensOf text ts → IsWhole line (part deck) ts [] → IsReadDeck text ts
 whole_is_read text ts are w =
-    let readable : Readable text ts = readable_behind text ts [] ts are refl in
-    let n = names_grow text ts [] readable in
-    let d = deck_read n.0 text (all_known text ts [] n.0 readable n.1) w in
+    let all = tokens_are text ts are in
+    let n = names_grow text ts [] all in
+    let d = deck_read n.0 text (all_known text ts [] n.0 all n.1) w in
     record { names = n.0; written = d.0; reads = d.1; names_are = n.1 }

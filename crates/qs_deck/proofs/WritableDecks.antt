@@ -14,7 +14,7 @@ use Rattle.qs_pattern.specs.Rules.{unmarked}
 use Rattle.qs_ruletext.specs.WrittenRules.{WrittenRule}
 use Rattle.qs_ruletext.specs.Rules.{IsWellRead}
 use Rattle.qs_ruletext.specs.Written.{AreOnOneLine}
-use Rattle.qs_ruletext.proofs.Naming.{grow_distinct}
+use Rattle.qs_reader.proofs.Naming.{grow_distinct}
 use Rattle.qs_ruletext.proofs.OneLine.{names_line}
 use Rattle.qs_graph.specs.Graphs.{QGraph, IsValid}
 use Rattle.qs_graph.specs.Chains.{with_chain}

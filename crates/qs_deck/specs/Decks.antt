@@ -7,7 +7,7 @@ use Rattle.qs_lex.specs.Nesting.{IsTooDeep}
 use Rattle.qs_tree.specs.declared.cell.Label.{Label}
 use Rattle.qs_pattern.specs.Rules.{Rule, marked}
 use Rattle.qs_ruletext.specs.WrittenRules.{WrittenRule}
-use Rattle.qs_ruletext.specs.Names.{NamesGrow}
+use Rattle.qs_reader.specs.Names.{NamesGrow}
 use Rattle.qs_graph.specs.Graphs.{QGraph, IsValid}
 use Rattle.qs_graphtext.specs.GraphOfChains.{AreFew, graph_of}
 use Rattle.qs_deck.specs.WrittenDecks.{WrittenSystem, WrittenDeck}

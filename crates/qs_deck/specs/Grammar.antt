@@ -15,7 +15,7 @@ pub data Part : Type 0 where
 -- system = -SYSTEME- label "." { rule }
 -- and for the parts of rules and of graphs the lines that they have
 abbrev pub line : Grammar Part
-line deck = part system · repeated (part system) · part (of_graphs graphs.graph)
+line deck = (part system · repeated (part system)) · part (of_graphs graphs.graph)
 line system = one (the_word Systeme) · one a_label · one stop · repeated (part (of_rules rules.rule))
 line (of_rules p) = renamed of_rules (rules.line p)
 line (of_graphs p) = renamed of_graphs (graphs.line p)

@@ -3,7 +3,7 @@ use Rattle.std.specs.Prelude.{◌≡◌, ℕ, ◌≤◌, List, [], ◌∷◌, le
 use Rattle.qs_lex.specs.declared.token.Token.{Token}
 use Rattle.qs_lex.specs.declared.token.Word.TheVariants.{Systeme}
 use Rattle.qs_lex.specs.Grammar.{the_word, stop, IsOf}
-use Rattle.qs_ruletext.specs.Reading.{IsLabelOf}
+use Rattle.qs_reader.specs.Names.{IsLabelOf}
 use Rattle.qs_ruletext.specs.Rules.{ReadsRules}
 use Rattle.qs_graphtext.specs.Reading.{ReadsGraph}
 use Rattle.qs_deck.specs.WrittenDecks.{WrittenSystem, WrittenDeck}

@@ -123,3 +123,15 @@ module _ {Part : Type 0} {line : Grammar Part} {table : Part → Sort → Bool} 
   pub names_between : NamesGrow text (between tokens from at) old new
   names_between =
       names_up_to text tokens from at old new (subst (λ k. from ≤ k) (sym place) here.goes_on.forward) within (subst (λ us. NamesGrowUpTo text (drop from tokens) us old new) behind here.names)
+
+-- what was read of all tokens
+module _ {Part : Type 0} {line : Grammar Part} {table : Part → Sort → Bool} {f : Form Part} {R : Reads} {text : List ℕ} {tokens : List Token} {r s : Reading} {old new : List (List ℕ)}
+    (starts : r ≡ record { text = text; tokens = tokens; place = 0 }) (ended : rest_of s ≡ []) (read : IsRead line table f R r s old new) where
+  abbrev whole : IsRead line table f R (record { text = text; tokens = tokens; place = 0 }) s old new
+  whole = subst (λ r. IsRead line table f R r s old new) starts read
+
+  pub reads_all : R new text tokens []
+  reads_all = subst (λ us. R new text tokens us) ended (whole.reads new (λ k t i. i))
+
+  pub names_all : NamesGrow text tokens old new
+  names_all = let g = whole.names in subst (λ us. NamesGrow text us old new) (sym (g.1 ∙ ap (λ us. g.0 ++ us) ended ∙ append-nil g.0)) g.2

@@ -12,7 +12,7 @@ use Rattle.qs_tree.specs.Names.{AreDistinct}
 use Rattle.qs_tree.specs.Text.{name_of}
 use Rattle.qs_tree.proofs.Members.{in_append_left, in_append_right}
 use Rattle.qs_pattern.specs.Rules.{Rule}
-use Rattle.qs_ruletext.specs.Names.{NamesGrow}
+use Rattle.qs_reader.specs.Names.{NamesGrow}
 use Rattle.qs_ruletext.specs.Written.{AreOnOneLine}
 use Rattle.qs_ruletext.proofs.LabelTexts.{texts_named, new_names_are_texts}
 use Rattle.qs_graph.specs.Graphs.{QGraph, IsValid}

@@ -1,5 +1,5 @@
 -- Why a reader of tokens gave no deck.
-use Rattle.std.specs.Prelude.{List, []}
+use Rattle.std.specs.Prelude.{List}
 use Rattle.qs_lex.specs.declared.token.Token.{Token}
 use Rattle.qs_reader.specs.declared.text_end.TextEnd.{TextEnd}
 use Rattle.qs_reader.specs.declared.text_end.TextEnd.TheVariants.{Syntax, Memory}

@@ -2,9 +2,9 @@ use Rattle.std.proofs.Common.{length, sym, subst}
 use Rattle.qs_graph.specs.Graphs.{QGraph}
 use Rattle.qs_graphtext.specs.Texts.{AreArcsNamed}
 use Rattle.qs_deck.specs.Decks.{IsWritten}
-use Rattle.qs_deck.specs.working.Answers.{end_of_check, IsEndOf}
+use Rattle.qs_deck.specs.working.Answers.{IsEndOf}
 use Rattle.qs_deck.proofs.Meanings as meaning
-use Rattle.qs_deck.proofs.Tables.{hands_on}
+use Rattle.qs_reader.proofs.Steps.{hands_on}
 use Rattle.qs_deck.proofs.decks.deck_of_tokens.Goals as goal
 
 pub checked-requires-clause-can : goal.checked-requires-clause-can
@@ -18,7 +18,7 @@ checked-requires-clause-few c =
 pub returns-in_err-systems-clause-end : goal.returns-in_err-systems-clause-end
 returns-in_err-systems-clause-end c =
     let written = subst (IsWritten c.args.text.now c.in_ok-names.names) (sym c.deck.view_is) c.in_ok-names.ensures.written in
-    hands_on c.from_residual-in_err-systems.result (end_of_check c.in_err-systems.field-0.0) (IsEndOf c.args.text.now) c.from_residual-in_err-systems.ensures.1
+    hands_on c.from_residual-in_err-systems.result (IsEndOf c.args.text.now) c.from_residual-in_err-systems.ensures.1
     (meaning.check_end_of c.args.text.now c.in_ok-names.names _ written c.in_err-systems.field-0.0 c.in_err-systems.ensures.refused)
 
 pub graph_of-requires-clause-some : goal.graph_of-requires-clause-some
