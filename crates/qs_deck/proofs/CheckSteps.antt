@@ -1,5 +1,5 @@
 -- Checking rules, one behind the other.
-use Rattle.std.proofs.Common.{◌≡◌, ◌<◌, List, [], ◌∷◌, ◌++◌, length, map, sym, ◌∙◌, ap, subst}
+use Rattle.std.proofs.Common.{◌≡◌, ◌<◌, Bool, List, [], ◌∷◌, ◌++◌, length, map, sym, ◌∙◌, ap, subst}
 use Rattle.std.specs.List.{All}
 use Rattle.std.proofs.lemmas.List.{map-append, append-nil, append_assoc}
 use Rattle.std.proofs.lemmas.List.Elements.{All-nil, All-cons, All-push, All-head, All-tail, All-append}
@@ -28,15 +28,15 @@ All-right P [] ys h = h
 All-right P (x ∷ xs) ys h = All-right P xs ys (All-tail P x (xs ++ ys) h)
 
 -- the rules so far are those of the front, which are accepted, and the rest is behind it
-pub record AreCheckedSoFar (raws : List WrittenRule) (rules : List Rule) (rest : List WrittenRule) : Type 0 where
+pub record AreCheckedSoFar (unique : Bool) (raws : List WrittenRule) (rules : List Rule) (rest : List WrittenRule) : Type 0 where
   pub front : List WrittenRule
   pub are : raws ≡ front ++ rest
   pub accepted : AreAccepted front
-  pub rules_are : rules ≡ map rule_of front
+  pub rules_are : rules ≡ map (rule_of unique) front
   pub can : All CanBeChecked rest
 
-pub checked_first : (raws : List WrittenRule) (rules : List Rule) (rest : List WrittenRule) → rules ≡ [] → rest ≡ raws → All CanBeChecked raws → AreCheckedSoFar raws rules rest
-checked_first raws rules rest n e can = record {
+pub checked_first : (unique : Bool) (raws : List WrittenRule) (rules : List Rule) (rest : List WrittenRule) → rules ≡ [] → rest ≡ raws → All CanBeChecked raws → AreCheckedSoFar unique raws rules rest
+checked_first unique raws rules rest n e can = record {
   front = [];
   are = sym e;
   accepted = All-nil (λ r. IsAcceptable r.rule);
@@ -45,29 +45,29 @@ checked_first raws rules rest n e can = record {
 }
 
 -- one more is accepted
-pub checked_next : (raws : List WrittenRule) (rules new : List Rule) (left rest : List WrittenRule) (raw : WrittenRule) (rule : Rule) → left ≡ raw ∷ rest → rule ≡ rule_of raw → IsAccepted rule → new ≡ rules ++ rule ∷ []
-    → AreCheckedSoFar raws rules left → AreCheckedSoFar raws new rest
-checked_next raws rules new left rest raw rule l e a n x = record {
+pub checked_next : (unique : Bool) (raws : List WrittenRule) (rules new : List Rule) (left rest : List WrittenRule) (raw : WrittenRule) (rule : Rule) → left ≡ raw ∷ rest → rule ≡ rule_of unique raw → IsAccepted rule → new ≡ rules ++ rule ∷ []
+    → AreCheckedSoFar unique raws rules left → AreCheckedSoFar unique raws new rest
+checked_next unique raws rules new left rest raw rule l e a n x = record {
   front = x.front ++ raw ∷ [];
   are = x.are ∙ ap (λ ys. x.front ++ ys) l ∙ sym (append_assoc x.front (raw ∷ []) rest);
   accepted = All-push (λ r. IsAcceptable r.rule) x.front raw x.accepted (subst IsAccepted e a);
-  rules_are = n ∙ ap (λ rs. rs ++ rule ∷ []) x.rules_are ∙ ap (λ r. map rule_of x.front ++ r ∷ []) e ∙ sym (map-append rule_of x.front (raw ∷ []));
+  rules_are = n ∙ ap (λ rs. rs ++ rule ∷ []) x.rules_are ∙ ap (λ r. map (rule_of unique) x.front ++ r ∷ []) e ∙ sym (map-append (rule_of unique) x.front (raw ∷ []));
   can = All-tail CanBeChecked raw rest (subst (All CanBeChecked) l x.can);
 }
 
 -- the next can be checked
-pub can_next : (raws : List WrittenRule) (rules : List Rule) (left rest : List WrittenRule) (raw : WrittenRule) → left ≡ raw ∷ rest → AreCheckedSoFar raws rules left → CanBeChecked raw
-can_next raws rules left rest raw l x = All-head CanBeChecked raw rest (subst (All CanBeChecked) l x.can)
+pub can_next : (unique : Bool) (raws : List WrittenRule) (rules : List Rule) (left rest : List WrittenRule) (raw : WrittenRule) → left ≡ raw ∷ rest → AreCheckedSoFar unique raws rules left → CanBeChecked raw
+can_next unique raws rules left rest raw l x = All-head CanBeChecked raw rest (subst (All CanBeChecked) l x.can)
 
 -- all are accepted
-pub checked_all : (raws : List WrittenRule) (rules : List Rule) (left : List WrittenRule) → left ≡ [] → AreCheckedSoFar raws rules left → (rules ≡ map rule_of raws) × AreAccepted raws
-checked_all raws rules left l x =
+pub checked_all : (unique : Bool) (raws : List WrittenRule) (rules : List Rule) (left : List WrittenRule) → left ≡ [] → AreCheckedSoFar unique raws rules left → (rules ≡ map (rule_of unique) raws) × AreAccepted raws
+checked_all unique raws rules left l x =
     let are : raws ≡ x.front = x.are ∙ ap (λ ys. x.front ++ ys) l ∙ append-nil x.front in
-    (x.rules_are ∙ ap (map rule_of) (sym are), subst AreAccepted (sym are) x.accepted)
+    (x.rules_are ∙ ap (map (rule_of unique)) (sym are), subst AreAccepted (sym are) x.accepted)
 
 -- the next is refused
-pub refused_next : (raws : List WrittenRule) (rules : List Rule) (left rest : List WrittenRule) (raw : WrittenRule) (end : CheckEnd) → left ≡ raw ∷ rest → AreCheckedSoFar raws rules left → EndsWith raw end → IsFirstRefused raws end
-refused_next raws rules left rest raw (Refused cause at) l x ends = record {
+pub refused_next : (unique : Bool) (raws : List WrittenRule) (rules : List Rule) (left rest : List WrittenRule) (raw : WrittenRule) (end : CheckEnd) → left ≡ raw ∷ rest → AreCheckedSoFar unique raws rules left → EndsWith raw end → IsFirstRefused raws end
+refused_next unique raws rules left rest raw (Refused cause at) l x ends = record {
   front = x.front;
   raw = raw;
   behind = rest;
@@ -75,7 +75,7 @@ refused_next raws rules left rest raw (Refused cause at) l x ends = record {
   accepted = x.accepted;
   ends = ends;
 }
-refused_next raws rules left rest raw Memory l x ends = tt
+refused_next unique raws rules left rest raw Memory l x ends = tt
 
 -- the grammars so far are those of the systems in front, whose rules are accepted, and the rest is behind them
 pub record AreSystemsSoFar (systems : List WrittenSystem) (grammars : List Grammar) (rest : List WrittenSystem) : Type 0 where

@@ -1,7 +1,7 @@
 -- The label tokens of a deck have the texts of its labels, in the order in which they are written.
-use Rattle.std.proofs.Common.{◌≡◌, ℕ, refl, sym, subst, List, [], ◌∷◌, ◌++◌, map}
+use Rattle.std.proofs.Common.{◌≡◌, ℕ, Bool, refl, sym, subst, List, [], ◌∷◌, ◌++◌, map}
 use Rattle.qs_lex.specs.declared.token.Token.{Token}
-use Rattle.qs_lex.specs.declared.token.Word.TheVariants.{Systeme}
+use Rattle.qs_lex.specs.declared.token.Word.TheVariants.{Systeme, Unique}
 use Rattle.qs_lex.specs.Grammar.{the_word, stop}
 use Rattle.qs_tree.specs.declared.cell.Label.{Label}
 use Rattle.qs_pattern.specs.Rules.{unmarked}
@@ -10,7 +10,7 @@ use Rattle.qs_ruletext.proofs.LabelTexts.{labels_in_rules, PassesLabels, passes_
 use Rattle.qs_graphtext.specs.GraphOfChains.{trees_in}
 use Rattle.qs_graphtext.proofs.LabelTexts.{labels_in_trees, graph_passes}
 use Rattle.qs_deck.specs.WrittenDecks.{WrittenSystem, WrittenDeck}
-use Rattle.qs_deck.specs.Reading.{ReadsSystem, reads_system, ReadsSystems, ReadsDeck}
+use Rattle.qs_deck.specs.Reading.{ReadsMark, no_mark, a_mark, ReadsSystem, reads_system, ReadsSystems, ReadsDeck}
 use Rattle.qs_deck.specs.Decks.{Grammar, rule_of, meaning_of}
 
 -- the labels of grammars, each with its name in front
@@ -19,17 +19,23 @@ labels_in_grammars [] = []
 labels_in_grammars (grammar ∷ grammars) = (grammar.name ∷ labels_in_rules (map unmarked grammar.rules)) ++ labels_in_grammars grammars
 
 -- the rules that written ones mean are those, without the mark
-unmarked_rules : (raws : List WrittenRule) → map unmarked (map rule_of raws) ≡ map (λ (raw : WrittenRule). raw.rule) raws
-unmarked_rules [] = refl
-unmarked_rules (raw ∷ raws) = λ i. raw.rule ∷ unmarked_rules raws i
+unmarked_rules : (unique : Bool) (raws : List WrittenRule) → map unmarked (map (rule_of unique) raws) ≡ map (λ (raw : WrittenRule). raw.rule) raws
+unmarked_rules unique [] = refl
+unmarked_rules unique (raw ∷ raws) = λ i. raw.rule ∷ unmarked_rules unique raws i
+
+-- a mark has no label
+mark_passes : {names : List (List ℕ)} {text : List ℕ} {ts rest : List Token} {unique : Bool} → ReadsMark ts unique rest → PassesLabels names text ts [] rest
+mark_passes no_mark = passes_nothing
+mark_passes (a_mark is) = passes_sign (the_word Unique) refl is
 
 system_passes : {names : List (List ℕ)} {text : List ℕ} {ts rest : List Token} {s : WrittenSystem} → ReadsSystem names text ts s rest
     → PassesLabels names text ts (s.name ∷ labels_in_rules (map unmarked (meaning_of s).rules)) rest
-system_passes {names} {text} (reads_system {ts} {rest} {system = s} e at label f below) =
+system_passes {names} {text} (reads_system {ts} {rest} {system = s} e at label mark f below) =
     passes_both (passes_sign (the_word Systeme) refl e)
     (passes_both (passes_label label)
+    (passes_both (mark_passes mark)
     (passes_both (passes_sign stop refl f)
-    (subst (λ rules. PassesLabels names text ts (labels_in_rules rules) rest) (sym (unmarked_rules s.rules)) (rules_pass names text ts rest s.rules below))))
+    (subst (λ rules. PassesLabels names text ts (labels_in_rules rules) rest) (sym (unmarked_rules s.unique s.rules)) (rules_pass names text ts rest s.rules below)))))
 
 systems_pass : (names : List (List ℕ)) (text : List ℕ) (systems : List WrittenSystem) (ts rest : List Token) → ReadsSystems names text ts systems rest
     → PassesLabels names text ts (labels_in_grammars (map meaning_of systems)) rest

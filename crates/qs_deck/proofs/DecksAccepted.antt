@@ -5,7 +5,7 @@ use Rattle.std.specs.List.{All}
 use Rattle.std.proofs.lemmas.List.{length-map}
 use Rattle.std.proofs.lemmas.List.Elements.{All-nil, All-cons}
 use Rattle.qs_lex.specs.declared.token.Token.{Token}
-use Rattle.qs_lex.specs.Tokens.{AreTokensOf}
+use Rattle.qs_lex.specs.Tokens.{version_of, AreTokensOf}
 use Rattle.qs_tree.specs.declared.cell.Label.{Label}
 use Rattle.qs_tree.specs.Lists.{◌∈◌}
 use Rattle.qs_tree.specs.Text.{name_of}
@@ -14,7 +14,7 @@ use Rattle.qs_pattern.specs.Rules.{Rule, IsAcceptable, IsAccepted}
 use Rattle.qs_ruletext.specs.WrittenRules.{WrittenRule}
 use Rattle.qs_ruletext.proofs.AtOnce.{at_once}
 use Rattle.qs_ruletext.proofs.ReadBack.{alone}
-use Rattle.qs_ruletext.proofs.Nesting.{fits_if_shallow, shallow_if_fits}
+use Rattle.qs_ruletext.proofs.Nesting.{Fits, fits_if_shallow, shallow_if_fits}
 use Rattle.qs_ruletext.proofs.NestingSteps.{Opens}
 use Rattle.qs_ruletext.proofs.LabelTexts.{HaveTexts, names_by_texts}
 use Rattle.qs_ruletext.proofs.NamesInUtf8.{AreUtf8, names_are}
@@ -29,9 +29,9 @@ use Rattle.qs_deck.specs.Reading.{ReadsDeck}
 use Rattle.qs_deck.specs.Decks.{Grammar, rule_of, meaning_of, IsDeckOf}
 use Rattle.qs_deck.specs.Texts.{deck_text}
 use Rattle.qs_deck.proofs.Meanings.{all_member}
-use Rattle.qs_deck.proofs.DecksReadBack.{ReadsBack, writable, deck_goes}
-use Rattle.qs_deck.proofs.WritableDecks.{tokens_are, names_of_deck, writable_deck}
-use Rattle.qs_deck.proofs.DecksNested.{grammars_height, deck_shows, deck_opens}
+use Rattle.qs_deck.proofs.DecksReadBack.{IsWritableGrammar, ReadsBack, writable, deck_goes, version_written}
+use Rattle.qs_deck.proofs.WritableDecks.{body_are, names_of_deck, known_version, writable_deck}
+use Rattle.qs_deck.proofs.DecksNested.{grammars_height, line_shows, deck_shows, deck_opens}
 use Rattle.qs_deck.proofs.DeckLabels.{labels_in_grammars, deck_passes}
 use Rattle.qs_deck.proofs.DecksInUtf8.{deck_text_is}
 
@@ -58,7 +58,7 @@ AreAccepted grammars = (grammar : Grammar) → grammar ∈ grammars → (rule : 
 grammars_accepted : (systems : List WrittenSystem) → All (λ (raw : WrittenRule). IsAcceptable raw.rule) (rules_of systems) → AreAccepted (map meaning_of systems)
 grammars_accepted systems all =
     from_map meaning_of systems (λ (grammar : Grammar). (rule : Rule) → rule ∈ grammar.rules → IsAccepted rule)
-    (λ system i. from_map rule_of system.rules IsAccepted
+    (λ system i. from_map (rule_of system.unique) system.rules IsAccepted
     (λ raw j. all_member (λ (r : WrittenRule). IsAcceptable r.rule) (rules_of systems) raw all (in_flat_map (λ (s : WrittenSystem). s.rules) systems system raw i j)))
 
 systems_accepted : (systems : List WrittenSystem) → AreAccepted (map meaning_of systems) → All (λ (raw : WrittenRule). IsAcceptable raw.rule) (rules_of systems)
@@ -66,7 +66,7 @@ systems_accepted systems accepted =
     all_if_each (λ (raw : WrittenRule). IsAcceptable raw.rule) (rules_of systems)
     (λ raw i.
     let found = from_systems systems raw i in
-    accepted (meaning_of found.0) (in_map meaning_of systems found.0 found.1) (rule_of raw) (in_map rule_of found.0.rules raw found.2))
+    accepted (meaning_of found.0) (in_map meaning_of systems found.0 found.1) (rule_of found.0.unique raw) (in_map (rule_of found.0.unique) found.0.rules raw found.2))
 
 -- the trees of chains are those on the arcs of their graph
 pub trees_on_arcs : (chains : List WrittenChain) (G : QGraph) → G ≡ graph_of chains → map tree_on G.arcs ≡ trees_in chains
@@ -82,12 +82,12 @@ deck_texts {names} {text} {ts} {d} labels e r =
     let all : List Label = labels_in_grammars (map meaning_of d.systems) ++ labels_in_trees (trees_in d.chains) in
     subst (λ ls. HaveTexts text ts (map (name_of names) ls)) (sym e) (subst (λ us. HaveTexts text us (map (name_of names) all)) whole found.texts)
 
-module _ {text : List ℕ} {names : List (List ℕ)} {grammars : List Grammar} {G : QGraph} (is : IsDeckOf text names grammars G) where
+module _ {text : List ℕ} {version : ℕ} {names : List (List ℕ)} {grammars : List Grammar} {G : QGraph} (is : IsDeckOf text version names grammars G) where
   abbrev was : WrittenDeck
   was = is.written
 
   abbrev new : List ℕ
-  new = deck_text names grammars G
+  new = deck_text version names grammars G
 
   -- the rules of an accepted text are accepted
   pub deck_accepted : (grammar : Grammar) → grammar ∈ grammars → (rule : Rule) → rule ∈ grammar.rules → IsAccepted rule
@@ -99,26 +99,35 @@ module _ {text : List ℕ} {names : List (List ℕ)} {grammars : List Grammar} {
   -- what was read shows how many parentheses are open at most in what is written
   few_open : max (grammars_height grammars) (trees_height (map tree_on G.arcs)) ≤ 1000
   few_open =
-      let shown = (deck_shows is.is_written.reads).fits 0 (omega arith) (fits_if_shallow is.is_written.tokens is.is_written.has_tokens.shallow) in
+      let w = is.is_written in
+      let shows = line_shows version w.front w.body [] w.in_front (deck_shows w.reads) in
+      let shown = shows.fits 0 (omega arith) (subst (Fits 0) w.are (fits_if_shallow w.tokens w.has_tokens.shallow)) in
       omega (arith, shown.0, ap grammars_height is.grammars_are, ap trees_height trees_are)
 
   -- the names are in UTF-8
   names_utf8 : AreUtf8 names
   names_utf8 =
       let w = is.is_written in
-      names_are text w.tokens [] names w.has_tokens.utf8 (tokens_are text w.tokens w.has_tokens.are_tokens) (λ k name e. absurd cc) w.names_are
+      names_are text w.body [] names w.has_tokens.utf8 (body_are w) (λ k name e. absurd cc) w.names_are
+
+  -- what is written is of the same version, and can be read in it
+  same_version : version ≡ version_of new
+  same_version = version_written version (known_version is) names grammars (writable_deck is).0 G
+
+  can_in_new : (grammar : Grammar) → grammar ∈ grammars → IsWritableGrammar (version_of new) (length names) grammar
+  can_in_new grammar i = subst (λ v. IsWritableGrammar v (length names) grammar) (sym is.is_written.version_is ∙ same_version) ((writable_deck is).1 grammar i)
 
   -- what is written is read, and opens no more
-  read_back : (ts : List Token) × AreTokensOf new ts × (ReadsBack names new ts grammars G [] × Opens (max (grammars_height grammars) (trees_height (map tree_on G.arcs))) ts [])
+  read_back : (ts : List Token) × AreTokensOf new ts × (ReadsBack names new ts version grammars G [] × Opens (max (grammars_height grammars) (trees_height (map tree_on G.arcs))) ts [])
   read_back =
       let line = (names_of_deck is).0 in
       let can = writable_deck is in
       alone new
       (at_once new []
-      (deck_goes names new line grammars can.0 can.1 G can.2 can.3 can.4 [])
-      (deck_opens names new line grammars can.1 G (writable (length names) G can.2 can.3 can.4) []))
+      (deck_goes names new line version (known_version is) same_version grammars can.0 can_in_new G can.2 can.3 can.4 [])
+      (deck_opens names new line version (known_version is) same_version grammars can_in_new G (writable (length names) G can.2 can.3 can.4) []))
 
-  pub written_is_accepted : IsDeckOf new names grammars G
+  pub written_is_accepted : IsDeckOf new version names grammars G
   written_is_accepted =
       let ts : List Token = read_back.0 in
       let back = read_back.2.0 in
@@ -131,15 +140,21 @@ module _ {text : List ℕ} {names : List (List ℕ)} {grammars : List Grammar} {
       record {
         written = back.deck;
         is_written = record {
+          version_is = same_version;
           tokens = ts;
+          front = back.front;
+          body = back.body;
+          are = back.are;
+          in_front = back.in_front;
           has_tokens = record {
-            utf8 = deck_text_is names names_utf8 (length names) grammars can.1 G;
+            utf8 = deck_text_is names names_utf8 version (length names) (known_version is) grammars
+                (λ grammar i. subst (λ v. IsWritableGrammar v (length names) grammar) (sym is.is_written.version_is) (can.1 grammar i)) G;
             are_tokens = read_back.1;
             shallow = shallow_if_fits ts (opens.fits 0 (omega (arith, few_open)) tt);
           };
           reads = back.reads;
           names_are =
-              names_by_texts text new is.is_written.tokens ts (map (name_of names) labels) [] names (deck_texts labels refl is.is_written.reads) (deck_texts labels same_labels back.reads) is.is_written.names_are;
+              names_by_texts text new is.is_written.body back.body (map (name_of names) labels) [] names (deck_texts labels refl is.is_written.reads) (deck_texts labels same_labels back.reads) is.is_written.names_are;
         };
         checked = record {
           few = omega (arith, is.checked.few, ap length same_grammars, length-map was.systems meaning_of, length-map back.deck.systems meaning_of);

@@ -11,7 +11,7 @@ use Rattle.qs_lex.specs.declared.refusal.Cause.{Cause}
 use Rattle.qs_lex.specs.declared.refusal.Cause.TheVariants.{NotUtf8, TooDeep, Syntax, TooManySystems, TooManyArcs, Cycle, Entries, Exits}
 use Rattle.qs_lex.specs.declared.refusal.Refusal.{Refusal}
 use Rattle.qs_lex.proofs.Refusing.{some_refusal}
-use Rattle.qs_lex.specs.Tokens.{AreTokensOf}
+use Rattle.qs_lex.specs.Tokens.{version_of, AreTokensOf, IsTokenOf}
 use Rattle.qs_lex.specs.Grammar.{part, IsWhole}
 use Rattle.qs_lex.specs.working.Expecting.{Stops}
 use Rattle.qs_lex.proofs.Totality.{a_reading}
@@ -29,7 +29,7 @@ use Rattle.qs_graphtext.specs.declared.chain_end.ChainEnd.TheVariants as chain_e
 use Rattle.qs_graphtext.proofs.ChainDecisions.{chains_decided}
 use Rattle.qs_deck.specs.WrittenDecks.{WrittenSystem, WrittenDeck, rules_in}
 use Rattle.qs_deck.specs.Grammar.{deck, line}
-use Rattle.qs_deck.specs.Syntax.{CannotGoOn}
+use Rattle.qs_deck.specs.working.Syntax.{CannotGoOnBehind}
 use Rattle.qs_deck.specs.Checks.{IsChecked, IsCheckFault, too_many_systems, rule_not_accepted}
 use Rattle.qs_deck.specs.Decks.{Grammar, meaning_of, HasTokens, IsWritten, IsDeckOf}
 use Rattle.qs_deck.specs.Refusals.{IsGraphFault, too_many_arcs, cycle, entries, exits, byte_of, IsFault, bytes, tokens, nesting, syntax, check, graph, IsRefusalOf}
@@ -41,6 +41,8 @@ use Rattle.qs_deck.specs.Grammar.{Part, system, of_rules, of_graphs}
 use Rattle.qs_deck.specs.working.Checked.{IsFirstOf}
 use Rattle.qs_deck.proofs.Tables.{more, ok}
 use Rattle.qs_deck.proofs.Places.{cannot_go_on}
+use Rattle.qs_deck.proofs.Versions.{syntax_decided_by}
+use Rattle.qs_deck.proofs.WritableDecks.{all_behind, tokens_are}
 use Rattle.qs_deck.proofs.WholeRead.{whole_is_read}
 
 -- ---- syntax
@@ -78,7 +80,7 @@ not_empty : {A : Type 0} → false ≡ true → A
 not_empty e = absurd (false≢true e)
 
 falls : (p : Part) → Below rank (rank p) (line p)
-falls deck = (omega arith, λ e. not_empty e)
+falls deck = ((omega arith, λ e. not_empty e), λ e. not_empty e)
 falls system = (tt, λ e. not_empty e)
 falls (of_rules rules.rule) = (omega arith, λ e. not_empty e)
 falls (of_rules rules.side) = (omega arith, λ e. not_empty e)
@@ -93,13 +95,13 @@ falls (of_graphs graphs.graph) = (tt, λ e. not_empty e)
 falls (of_graphs graphs.chain) = (tt, λ e. not_empty e)
 falls (of_graphs graphs.plain) = (tt, λ e. not_empty e)
 
-syntax_decided : (ts : List Token) → IsWhole line (part deck) ts [] ⊎ ((at : ℕ) × CannotGoOn ts at)
-syntax_decided ts = ⊎_elim (λ w. inl w) (λ s. inr (length ts - s.0, stopped s.0 s.1)) (whole_or_stops table more ok rank 7 low falls (part deck) tt ts)
+decided_behind : (ts : List Token) → IsWhole line (part deck) ts [] ⊎ ((at : ℕ) × CannotGoOnBehind ts at)
+decided_behind ts = ⊎_elim (λ w. inl w) (λ s. inr (length ts - s.0, stopped s.0 s.1)) (whole_or_stops table more ok rank 7 low falls (part deck) tt ts)
   where
-    stopped : (left : ℕ) → Stops line (part deck ∷ []) ts left → CannotGoOn ts (length ts - left)
+    stopped : (left : ℕ) → Stops line (part deck ∷ []) ts left → CannotGoOnBehind ts (length ts - left)
     stopped left s =
         let back : left ≡ length ts - (length ts - left) = omega (arith, s.left_is, ap length s.are ∙ length-append s.passed s.rest) in
-        cannot_go_on ts (length ts - left) (record { within = omega arith; stops = subst (λ n. Stops line (part deck ∷ []) ts n) back s })
+        cannot_go_on ts (length ts - left) (omega arith) (subst (λ n. Stops line (part deck ∷ []) ts n) back s)
 
 -- ---- checks
 
@@ -153,15 +155,16 @@ graph_refused d chain_end.Memory n r = absurd (n refl)
 
 -- a text means a deck or has a first fault
 abbrev IsDecided : List ℕ → Type 0
-IsDecided text = ((names : List (List ℕ)) × (grammars : List Grammar) × (graph : QGraph) × IsDeckOf text names grammars graph) ⊎ ((at : ℕ) × (cause : Cause) × IsFault text at cause)
+IsDecided text = ((version : ℕ) × (names : List (List ℕ)) × (grammars : List Grammar) × (graph : QGraph) × IsDeckOf text version names grammars graph) ⊎ ((at : ℕ) × (cause : Cause) × IsFault text at cause)
 
-of_written : (text : List ℕ) (names : List (List ℕ)) (d : WrittenDeck) → IsWritten text names d → IsDecided text
-of_written text names d w = ⊎_elim checked (λ f. inr (f.0, f.1, check names d w f.2)) (checks_decided d (meaning.can text names d w))
+of_written : (text : List ℕ) (version : ℕ) (names : List (List ℕ)) (d : WrittenDeck) → IsWritten text version names d → IsDecided text
+of_written text version names d w = ⊎_elim checked (λ f. inr (f.0, f.1, check version names d w f.2)) (checks_decided d (meaning.can text version names d w))
   where
     checked : IsChecked d → IsDecided text
     checked good =
         ⊎_elim
         (λ made. inl (
+          version,
           names,
           map meaning_of d.systems,
           graph_of d.chains,
@@ -175,16 +178,17 @@ of_written text names d w = ⊎_elim checked (λ f. inr (f.0, f.1, check names d
             graph_is = refl;
           },
         ))
-        (λ r. let f = graph_refused d r.0 r.1 r.2 in inr (f.0, f.1, graph names d w good f.2))
-        (chains_decided d.chains (meaning.chains_some text names d w) (meaning.chains_whole text names d w))
+        (λ r. let f = graph_refused d r.0 r.1 r.2 in inr (f.0, f.1, graph version names d w good f.2))
+        (chains_decided d.chains (meaning.chains_some text version names d w) (meaning.chains_whole text version names d w))
 
 of_shallow : (text : List ℕ) (ts : List Token) → HasTokens text ts → IsDecided text
 of_shallow text ts has =
     ⊎_elim
-    (λ w. let d = whole_is_read text ts has.are_tokens w in
-    of_written text d.names d.written (record { tokens = ts; has_tokens = has; reads = d.reads; names_are = d.names_are }))
+    (λ w. let d = whole_is_read text w.body (all_behind (IsTokenOf text) w.front w.body (subst (All (IsTokenOf text)) w.are (tokens_are text ts has.are_tokens))) w.whole in
+    of_written text (version_of text) d.names d.written
+    (record { version_is = refl; tokens = ts; has_tokens = has; front = w.front; body = w.body; are = w.are; in_front = w.in_front; reads = d.reads; names_are = d.names_are }))
     (λ s. inr (byte_of text ts s.0, Syntax, syntax ts s.0 has s.1))
-    (syntax_decided ts)
+    (syntax_decided_by text decided_behind ts)
 
 of_tokens : (text : List ℕ) (ts : List Token) → IsUtf8 text → AreTokensOf text ts → IsDecided text
 of_tokens text ts utf8 are =
@@ -204,7 +208,7 @@ of_bytes text = by (is_utf8 text) refl
     by false e = inr (utf8_valid_len text, NotUtf8, bytes (λ utf8. false≢true (sym e ∙ is_utf8-from_IsUtf8 text utf8)))
 
 -- a text means a deck or is refused
-pub each_text : (text : List ℕ) → ((names : List (List ℕ)) × (grammars : List Grammar) × (graph : QGraph) × IsDeckOf text names grammars graph) ⊎ ((r : Refusal) × IsRefusalOf text r)
+pub each_text : (text : List ℕ) → ((version : ℕ) × (names : List (List ℕ)) × (grammars : List Grammar) × (graph : QGraph) × IsDeckOf text version names grammars graph) ⊎ ((r : Refusal) × IsRefusalOf text r)
 each_text text =
     ⊎_elim (λ d. inl d)
     (λ f. inr (some_refusal IsFault text f.0 f.1 f.2))

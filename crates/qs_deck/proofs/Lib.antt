@@ -1,8 +1,6 @@
 -- Reading.
 pub mod Tables
 pub mod Steps
-pub mod Naming
-pub mod Systems
 pub mod Places
 pub mod Told
 -- Checking, and what a written deck means.
@@ -13,12 +11,13 @@ pub mod Meanings
 -- Writing.
 pub mod Errors
 -- That there is one meaning or one refusal.
+pub mod Versions
+pub mod VersionSteps
 pub mod WholeDecks
 pub mod OneDeck
 pub mod OneFault
 -- That what is written is read as it was.
 pub mod DecksReadBack
-pub mod RulesTold
 pub mod WritableDecks
 pub mod DecksNested
 pub mod DeckLabels

@@ -1,5 +1,5 @@
 -- What a written deck means, and how it is refused.
-use Rattle.std.proofs.Common.{◌≡◌, ℕ, ◌≤◌, ◌<◌, List, [], ◌∷◌, length, map, refl, sym, subst, inl, inr, arith, Option, Some, None}
+use Rattle.std.proofs.Common.{◌≡◌, ℕ, ◌≤◌, ◌<◌, Bool, List, [], ◌∷◌, length, map, refl, sym, ap, subst, inl, inr, arith, Option, Some, None, length-append}
 use Rattle.std.specs.Prelude.{IsCharBoundary, Result, Ok, Err, IfOk, IfErr, IsErr}
 use Rattle.std.specs.Str.{IsUtf8}
 use Rattle.std.specs.List.{All}
@@ -68,8 +68,8 @@ all_member P [] x h i = elim i [ ]
 all_member P (y ∷ ys) x h (inl e) = subst P (sym e) (All-head P y ys h)
 all_member P (y ∷ ys) x h (inr i) = all_member P ys x (All-tail P y ys h) i
 
-rule_named : (n : ℕ) (raw : WrittenRule) → IsWellRead n raw.rule → IsRuleNamed n (rule_of raw)
-rule_named n raw w = record { left = w.left.named; right = w.right.named; condition = if_given raw.rule.condition w.condition }
+rule_named : (n : ℕ) (unique : Bool) (raw : WrittenRule) → IsWellRead n raw.rule → IsRuleNamed n (rule_of unique raw)
+rule_named n unique raw w = record { left = w.left.named; right = w.right.named; condition = if_given raw.rule.condition w.condition }
   where
     if_given : (o : Option Condition) → IsWellReadIfGiven n o → IsNamedIfGiven n o
     if_given None h = tt
@@ -79,14 +79,18 @@ rule_named n raw w = record { left = w.left.named; right = w.right.named; condit
 abbrev IsGrammarNamed : ℕ → Grammar → Type 0
 IsGrammarNamed n g = (g.name.0 < n) × ((rule : Rule) → rule ∈ g.rules → IsRuleNamed n rule)
 
-module _ (text : List ℕ) (names : List (List ℕ)) (deck : WrittenDeck) (w : IsWritten text names deck) where
+module _ (text : List ℕ) (version : ℕ) (names : List (List ℕ)) (deck : WrittenDeck) (w : IsWritten text version names deck) where
+  -- what stands behind the line stands among the tokens
+  behind_line : (byte : ℕ) → IsByteOf w.body byte → IsByteOf w.tokens byte
+  behind_line byte b = (b.0, subst (λ ts. b.0 ∈ ts) (sym w.are) (in_append_right w.front w.body b.0 b.1), b.2)
+
   pub can : All CanBeChecked (rules_of deck.systems)
-  can = systems_can names text w.tokens (w.reads.first ∷ w.reads.behind) deck.systems w.reads.systems
+  can = systems_can names text w.body (w.reads.first ∷ w.reads.behind) deck.systems w.reads.systems
 
   pub few : length text ≤ 4194304 → All HasFewRules deck.systems
   few short =
-      systems_few names text w.tokens (w.reads.first ∷ w.reads.behind) deck.systems w.reads.systems
-      (omega (arith, short, few_tokens text 0 w.tokens (spans text w.tokens w.has_tokens) (omega (arith))))
+      systems_few names text w.body (w.reads.first ∷ w.reads.behind) deck.systems w.reads.systems
+      (omega (arith, short, few_tokens text 0 w.tokens (spans text w.tokens w.has_tokens) (omega (arith)), ap length w.are, length-append w.front w.body))
 
   border : (byte : ℕ) → IsByteOf w.tokens byte → IsCharBoundary text byte
   border byte b = byte_border text w.tokens byte (spans text w.tokens w.has_tokens) b
@@ -94,18 +98,18 @@ module _ (text : List ℕ) (names : List (List ℕ)) (deck : WrittenDeck) (w : I
   -- the checks
   check_byte : (cause : Cause) (at : ℕ) → IsFirstFault deck.systems (Refused cause at) → IsByteOf w.tokens at
   check_byte cause at (inl x) =
-      subst (IsByteOf w.tokens) (sym x.3) (word_byte names text w.tokens (w.reads.first ∷ w.reads.behind) deck.systems w.reads.systems x.0 (in_at deck.systems 256 x.0 x.1))
+      behind_line at (subst (IsByteOf w.body) (sym x.3) (word_byte names text w.body (w.reads.first ∷ w.reads.behind) deck.systems w.reads.systems x.0 (in_at deck.systems 256 x.0 x.1)))
   check_byte cause at (inr x) =
       let f = x.1 in
       let among = subst (λ raws. f.raw ∈ raws) (sym f.are) (in_append_right f.front (f.raw ∷ f.behind) f.raw (inl refl)) in
-      rule_byte names text w.tokens (w.reads.first ∷ w.reads.behind) deck.systems w.reads.systems f.raw among at (in_at f.raw.at f.ends.0 at f.ends.2)
+      behind_line at (rule_byte names text w.body (w.reads.first ∷ w.reads.behind) deck.systems w.reads.systems f.raw among at (in_at f.raw.at f.ends.0 at f.ends.2))
 
   check_fault : (cause : Cause) (at : ℕ) → IsFirstFault deck.systems (Refused cause at) → IsCheckFault deck at cause
   check_fault cause at (inl x) = subst (IsCheckFault deck at) (sym x.2) (subst (λ b. IsCheckFault deck b TooManySystems) (sym x.3) (too_many_systems x.0 x.1))
   check_fault cause at (inr x) = rule_not_accepted x.1.front x.1.behind x.1.raw x.0 x.1.are x.1.accepted x.1.ends
 
   pub check_end_of : (end : CheckEnd) → IsFirstFault deck.systems end → IsEndOf text (end_of_check end)
-  check_end_of (check_end.Refused cause at) f = (check names deck w (check_fault cause at f), border at (check_byte cause at f))
+  check_end_of (check_end.Refused cause at) f = (check version names deck w (check_fault cause at f), border at (check_byte cause at f))
   check_end_of check_end.Memory f = tt
 
   -- the graph
@@ -116,24 +120,24 @@ module _ (text : List ℕ) (names : List (List ℕ)) (deck : WrittenDeck) (w : I
   chains_whole = whole_graph w.reads.graph
 
   byte_behind : (byte : ℕ) → IsByteOf (w.reads.first ∷ w.reads.behind) byte → IsByteOf w.tokens byte
-  byte_behind byte b = (b.0, systems_later names text w.tokens (w.reads.first ∷ w.reads.behind) deck.systems w.reads.systems b.0 b.1, b.2)
+  byte_behind byte b = behind_line byte (b.0, systems_later names text w.body (w.reads.first ∷ w.reads.behind) deck.systems w.reads.systems b.0 b.1, b.2)
 
   word_of_graph : IsByteOf w.tokens deck.graph_at
   word_of_graph = byte_behind deck.graph_at (w.reads.first, inl refl, sym w.reads.graph_at)
 
   pub graph_end_of : IsChecked deck → (end : ChainEnd) → AreRefused deck.chains end → IsEndOf text (end_of_chains deck.graph_at end)
   graph_end_of checked (chain_end.TooManyArcs a) h =
-      (graph names deck w checked (too_many_arcs h), border a (byte_behind a (byte_of_graph w.reads.graph a (in_at (places_in deck.chains) 65536 a h.1))))
-  graph_end_of checked chain_end.Cycle h = (graph names deck w checked (cycle h), border deck.graph_at word_of_graph)
-  graph_end_of checked chain_end.Entries h = (graph names deck w checked (entries h), border deck.graph_at word_of_graph)
-  graph_end_of checked chain_end.Exits h = (graph names deck w checked (exits h), border deck.graph_at word_of_graph)
+      (graph version names deck w checked (too_many_arcs h), border a (byte_behind a (byte_of_graph w.reads.graph a (in_at (places_in deck.chains) 65536 a h.1))))
+  graph_end_of checked chain_end.Cycle h = (graph version names deck w checked (cycle h), border deck.graph_at word_of_graph)
+  graph_end_of checked chain_end.Entries h = (graph version names deck w checked (entries h), border deck.graph_at word_of_graph)
+  graph_end_of checked chain_end.Exits h = (graph version names deck w checked (exits h), border deck.graph_at word_of_graph)
   graph_end_of checked chain_end.Memory h = tt
 
   -- the names
   meaning_named : (system : WrittenSystem) → system ∈ deck.systems → IsGrammarNamed (length names) (meaning_of system)
   meaning_named system i =
-      let x = systems_named names text w.tokens (w.reads.first ∷ w.reads.behind) deck.systems w.reads.systems system i in
-      (x.0, from_map rule_of system.rules (IsRuleNamed (length names)) (λ raw j. rule_named (length names) raw (all_member (λ (r : WrittenRule). IsWellRead (length names) r.rule) system.rules raw x.1 j)))
+      let x = systems_named names text w.body (w.reads.first ∷ w.reads.behind) deck.systems w.reads.systems system i in
+      (x.0, from_map (rule_of system.unique) system.rules (IsRuleNamed (length names)) (λ raw j. rule_named (length names) system.unique raw (all_member (λ (r : WrittenRule). IsWellRead (length names) r.rule) system.rules raw x.1 j)))
 
   pub grammars_named : (systems : List System) → map grammar_of systems ≡ map meaning_of deck.systems → AreSystemsNamed (length names) systems
   grammars_named systems e system i =

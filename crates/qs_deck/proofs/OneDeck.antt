@@ -1,13 +1,14 @@
 -- Tokens are read as one deck only: its systems stand one behind the other, the rules of each end at the next -SYSTEME- or at
 -- -GRAPHE-, which begin no rule, and rules and graphs are read in one way.
-use Rattle.std.proofs.Common.{◌≡◌, ℕ, ◌≤◌, false, refl, sym, ◌∙◌, ap, subst, inl, inr, List, [], ◌∷◌, length, map, arith}
+use Rattle.std.proofs.Common.{◌≡◌, ℕ, ◌≤◌, Bool, false, refl, sym, ◌∙◌, ap, subst, inl, inr, List, [], ◌∷◌, length, map, arith}
 use Rattle.std.specs.Prelude.{◌⊎◌}
 use Rattle.qs_lex.specs.declared.token.Token.{Token}
-use Rattle.qs_lex.specs.declared.token.Word.TheVariants.{Systeme, Graphe}
-use Rattle.qs_lex.specs.Grammar.{Sort, the_word, IsOf}
+use Rattle.qs_lex.specs.declared.token.Word.TheVariants.{Systeme, Graphe, Unique}
+use Rattle.qs_lex.specs.Grammar.{Sort, the_word, stop, IsOf}
 use Rattle.qs_lex.proofs.Expected.{begin_front}
 use Rattle.qs_tree.specs.Names.{AreDistinct}
 use Rattle.qs_ruletext.specs.WrittenRules.{WrittenRule}
+use Rattle.qs_ruletext.specs.Rules.{ReadsRules}
 use Rattle.qs_ruletext.specs.Grammar.{rule}
 use Rattle.qs_ruletext.specs.working.Readers.{table}
 use Rattle.qs_ruletext.specs.Endings.{NoRuleIn}
@@ -18,7 +19,7 @@ use Rattle.qs_graphtext.specs.WrittenChains.{WrittenChain}
 use Rattle.qs_graphtext.specs.Reading.{ReadsGraph, reads_graph}
 use Rattle.qs_graphtext.proofs.OneReading.{one_graph}
 use Rattle.qs_deck.specs.WrittenDecks.{WrittenSystem, WrittenDeck}
-use Rattle.qs_deck.specs.Reading.{ReadsSystem, reads_system, ReadsSystems, ReadsDeck}
+use Rattle.qs_deck.specs.Reading.{ReadsMark, no_mark, a_mark, ReadsSystem, reads_system, ReadsSystems, ReadsDeck}
 
 first_of : {X : Type 0} {x y : X} {xs ys : List X} → x ∷ xs ≡ y ∷ ys → x ≡ y
 first_of e = cc
@@ -64,7 +65,7 @@ not_both_words (t ∷ ts) is also = one_sort (the_word Systeme) (the_word Graphe
 
 module _ (names : List (List ℕ)) (text : List ℕ) where
   system_next : {ts rest : List Token} {a : WrittenSystem} → ReadsSystem names text ts a rest → NextIs (the_word Systeme) ts
-  system_next (reads_system e at label f rules) = e
+  system_next (reads_system e at label mark f rules) = e
 
   pub graph_next : {ts rest : List Token} {chains : List WrittenChain} → ReadsGraph names text ts chains rest → NextIs (the_word Graphe) ts
   graph_next (reads_graph e chains f) = e
@@ -81,15 +82,28 @@ module _ (names : List (List ℕ)) (text : List ℕ) where
   border [] ts rest e is = inr (subst (λ us. NextIs (the_word Graphe) us) (sym e) is)
   border (a ∷ systems) ts rest h is = inl (system_next h.1)
 
+  -- a mark stands or doesn't
+  record IsOneMark (a b : Bool) (us vs : List Token) : Type 0 where
+    same : a ≡ b
+    rests : us ≡ vs
+
+  -- what stands behind it is a stop
+  one_mark : {a b : Bool} {marks more us vs : List Token} {v w : Token} → ReadsMark marks a (v ∷ us) → ReadsMark more b (w ∷ vs) → marks ≡ more → IsOf stop v → IsOf stop w → IsOneMark a b us vs
+  one_mark no_mark no_mark e is also = record { same = refl; rests = rest_of e }
+  one_mark (a_mark m) (a_mark n) e is also = record { same = refl; rests = rest_of (rest_of e) }
+  one_mark {v} no_mark (a_mark n) e is also = absurd (one_sort stop (the_word Unique) v refl is (subst (IsOf (the_word Unique)) (sym (first_of e)) n))
+  one_mark {w} (a_mark m) no_mark e is also = absurd (one_sort stop (the_word Unique) w refl also (subst (IsOf (the_word Unique)) (first_of e) m))
+
   module _ (distinct : AreDistinct names) where
     one_system : {ts rest end : List Token} {a b : WrittenSystem} → ReadsSystem names text ts a rest → ReadsSystem names text ts b end → NoRuleIn rest → NoRuleIn end
         → (a ≡ b) × (rest ≡ end)
-    one_system (reads_system {u} {ts} {rest} {system = a} e at label f rules) (reads_system {rest = end} {system = b} g place mark h others) none stops =
-        let same = one_rules names text distinct a.rules b.rules ts rest end rules others none stops in
+    one_system (reads_system {u} {ts} {rest} {system = a} e at label mark f rules) (reads_system {ts = us} {rest = end} {system = b} g place name_too mark_too h others) none stops =
+        let unique = one_mark mark mark_too refl f h in
+        let same = one_rules names text distinct a.rules b.rules ts rest end rules (subst (λ vs. ReadsRules names text vs b.rules end) (sym unique.rests) others) none stops in
         let byte : a.at ≡ b.at = at ∙ sym place in
-        let name : a.name ≡ b.name = one_label names text distinct u a.name b.name label mark in
+        let name : a.name ≡ b.name = one_label names text distinct u a.name b.name label name_too in
         let written = same_rules a.rules b.rules same.0 same.1 in
-        (λ i. record { at = byte i; name = name i; rules = written i }, same.2)
+        (λ i. record { at = byte i; name = name i; unique = unique.same i; rules = written i }, same.2)
 
     one_systems : (systems others : List WrittenSystem) (ts rest end : List Token) → ReadsSystems names text ts systems rest → ReadsSystems names text ts others end
         → NextIs (the_word Graphe) rest → NextIs (the_word Graphe) end → (systems ≡ others) × (rest ≡ end)

@@ -10,14 +10,12 @@ use Rattle.qs_lex.specs.declared.refusal.Refusal.{Refusal}
 use Rattle.qs_lex.proofs.Refusing as refusing
 use Rattle.qs_lex.specs.Tokens.{AreTokensOf}
 use Rattle.qs_lex.specs.Nesting.{IsTooDeep}
-use Rattle.qs_lex.specs.Grammar.{part, IsWhole, Begins}
-use Rattle.qs_lex.proofs.Expected.{whole_begins}
 use Rattle.qs_lex.proofs.Readings as readings
 use Rattle.qs_tree.specs.Names.{AreDistinct}
 use Rattle.qs_pattern.specs.Rules.{IsAcceptable}
 use Rattle.qs_ruletext.specs.WrittenRules.{WrittenRule}
-use Rattle.qs_ruletext.specs.Names.{NamesGrow}
-use Rattle.qs_ruletext.proofs.Naming.{one_growth, grow_distinct}
+use Rattle.qs_reader.specs.Names.{NamesGrow}
+use Rattle.qs_reader.proofs.Naming.{one_growth, grow_distinct}
 use Rattle.qs_check.specs.declared.checking.CheckEnd.TheVariants.{Refused}
 use Rattle.qs_check.specs.Checking.{EndsWith}
 use Rattle.qs_check.proofs.Limits.{one_cause, none_if_accepted}
@@ -26,15 +24,15 @@ use Rattle.qs_graphtext.specs.WrittenChains.{WrittenChain}
 use Rattle.qs_graphtext.specs.GraphOfChains.{AreFew, AreRefused, graph_of}
 use Rattle.qs_graphtext.specs.declared.chain_end.ChainEnd.TheVariants as chain_end
 use Rattle.qs_deck.specs.WrittenDecks.{WrittenSystem, WrittenDeck}
-use Rattle.qs_deck.specs.Grammar.{deck, line}
+use Rattle.qs_deck.specs.Versions.{IsVersionLine, no_line, the_line, IsWholeDeck, BeginsDeck}
 use Rattle.qs_deck.specs.Reading.{ReadsDeck}
 use Rattle.qs_deck.specs.Syntax.{CannotGoOn}
 use Rattle.qs_deck.specs.working.Checked.{AreAccepted}
 use Rattle.qs_deck.specs.Checks.{IsChecked, IsCheckFault, too_many_systems, rule_not_accepted}
 use Rattle.qs_deck.specs.Decks.{Grammar, meaning_of, HasTokens, IsWritten, IsDeckOf}
 use Rattle.qs_deck.specs.Refusals.{byte_of, IsFirstTooDeep, IsGraphFault, too_many_arcs, cycle, entries, exits, IsFault, bytes, tokens, nesting, syntax, check, graph, IsRefusalOf}
-use Rattle.qs_lex.proofs.Fronts.{front_begins}
-use Rattle.qs_deck.proofs.WholeDecks.{deck_whole}
+use Rattle.qs_deck.proofs.Versions.{front_begins_deck, whole_deck_begins}
+use Rattle.qs_deck.proofs.WholeDecks.{written_whole}
 use Rattle.qs_deck.proofs.OneDeck.{one_deck}
 
 -- ---- nesting
@@ -60,22 +58,22 @@ goes_on (t ∷ ts) (suc i) (suc j) l within =
     record { token = on.token; there = on.there; more = on.more; are = ap (λ us. t ∷ us) on.are }
 
 -- no front past the place begins a deck
-none_longer : (ts : List Token) (i j : ℕ) → i < j → j ≤ length ts → CannotGoOn ts i → Begins line (part deck) (take j ts) → ⊥
-none_longer ts i j l within stops begins =
+none_longer : (text : List ℕ) (ts : List Token) (i j : ℕ) → i < j → j ≤ length ts → CannotGoOn text ts i → BeginsDeck text (take j ts) → ⊥
+none_longer text ts i j l within stops begins =
     let on = goes_on ts i j l within in
-    stops.no_further on.token on.there (front_begins (take i ts ++ on.token ∷ []) on.more begins on.are)
+    stops.no_further on.token on.there (front_begins_deck text (take j ts) (take i ts ++ on.token ∷ []) on.more begins on.are)
 
-one_stop : (ts : List Token) (i j : ℕ) → CannotGoOn ts i → CannotGoOn ts j → i ≡ j
-one_stop ts i j a b =
+one_stop : (text : List ℕ) (ts : List Token) (i j : ℕ) → CannotGoOn text ts i → CannotGoOn text ts j → i ≡ j
+one_stop text ts i j a b =
     ⊎_elim (λ e. e)
-    (λ o. absurd (⊎_elim (λ l. none_longer ts i j l b.within a b.begins) (λ l. none_longer ts j i l a.within b a.begins) o))
+    (λ o. absurd (⊎_elim (λ l. none_longer text ts i j l b.within a b.begins) (λ l. none_longer text ts j i l a.within b a.begins) o))
     (cases_order i j)
 
-never_whole : (ts : List Token) (i : ℕ) → CannotGoOn ts i → IsWhole line (part deck) ts [] → ⊥
-never_whole ts i stops whole =
-    let begins : Begins line (part deck) (take (length ts) ts) = subst (λ us. Begins line (part deck) us) (sym (take_all (length ts) ts (omega arith))) (whole_begins whole refl) in
+never_whole : (text : List ℕ) (ts : List Token) (i : ℕ) → CannotGoOn text ts i → IsWholeDeck text ts → ⊥
+never_whole text ts i stops whole =
+    let begins : BeginsDeck text (take (length ts) ts) = subst (λ us. BeginsDeck text us) (sym (take_all (length ts) ts (omega arith))) (whole_deck_begins whole) in
     ⊎_elim (λ e. stops.not_whole e whole)
-    (λ o. ⊎_elim (λ l. none_longer ts i (length ts) l (omega arith) stops begins) (λ l. let within = stops.within in omega arith) o)
+    (λ o. ⊎_elim (λ l. none_longer text ts i (length ts) l (omega arith) stops begins) (λ l. let within = stops.within in omega arith) o)
     (cases_order i (length ts))
 
 -- ---- checks
@@ -163,22 +161,37 @@ no_graph_fault d few valid (exits b) = b.1.2 valid.exit
 
 -- ---- texts
 
+-- the line of a version is told by its tokens, and what stands behind it too
+pub one_line : (text : List ℕ) (v : ℕ) (front body others more : List Token) → IsVersionLine text v front → IsVersionLine text v others → front ++ body ≡ others ++ more → body ≡ more
+one_line text v [] body others more no_line b e = by others b e
+  where
+    by : (others : List Token) → IsVersionLine text 1 others → body ≡ others ++ more → body ≡ more
+    by [] no_line e = e
+    by (t ∷ others) x e = elim x [ ]
+one_line text v front body others more (the_line w n d) b e = by others b e
+  where
+    by : (others : List Token) → IsVersionLine text 2 others → front ++ body ≡ others ++ more → body ≡ more
+    by others (the_line x m p) e = cc
+
 -- a text is one written deck at most
-record IsOneWritten (names others : List (List ℕ)) (d e : WrittenDeck) : Type 0 where
+record IsOneWritten (v w : ℕ) (names others : List (List ℕ)) (d e : WrittenDeck) : Type 0 where
+  versions_are : v ≡ w
   names_are : names ≡ others
   same : d ≡ e
 
 none_twice : AreDistinct []
 none_twice i j t e f = absurd cc
 
-one_written : {text : List ℕ} {names others : List (List ℕ)} {d e : WrittenDeck} → IsWritten text names d → IsWritten text others e → IsOneWritten names others d e
-one_written {text} {names} {others} {d} {e} a b =
+one_written : {text : List ℕ} {v w : ℕ} {names others : List (List ℕ)} {d e : WrittenDeck} → IsWritten text v names d → IsWritten text w others e → IsOneWritten v w names others d e
+one_written {text} {v} {w} {names} {others} {d} {e} a b =
     let ts : a.tokens ≡ b.tokens = readings.one_list text a.tokens b.tokens a.has_tokens.are_tokens b.has_tokens.are_tokens in
-    let reads = subst (λ us. ReadsDeck others text us e []) (sym ts) b.reads in
-    let grow = subst (λ us. NamesGrow text us [] others) (sym ts) b.names_are in
-    let same_names : names ≡ others = one_growth text a.tokens [] names others a.names_are grow in
-    let distinct = grow_distinct text a.tokens [] names none_twice a.names_are in
-    record { names_are = same_names; same = one_deck names text distinct a.reads (subst (λ ns. ReadsDeck ns text a.tokens e []) (sym same_names) reads) }
+    let versions : v ≡ w = a.version_is ∙ sym b.version_is in
+    let bodies : a.body ≡ b.body = one_line text v a.front a.body b.front b.body a.in_front (subst (λ u. IsVersionLine text u b.front) (sym versions) b.in_front) (sym a.are ∙ ts ∙ b.are) in
+    let reads = subst (λ us. ReadsDeck others text us e []) (sym bodies) b.reads in
+    let grow = subst (λ us. NamesGrow text us [] others) (sym bodies) b.names_are in
+    let same_names : names ≡ others = one_growth text a.body [] names others a.names_are grow in
+    let distinct = grow_distinct text a.body [] names none_twice a.names_are in
+    record { versions_are = versions; names_are = same_names; same = one_deck names text distinct a.reads (subst (λ ns. ReadsDeck ns text a.body e []) (sym same_names) reads) }
 
 -- so a fault of the one is a fault of the other
 check_moved : {d e : WrittenDeck} {p : ℕ} {c : Cause} → d ≡ e → IsCheckFault e p c → IsCheckFault d p c
@@ -196,9 +209,9 @@ deep_nowhere {text} {ts} {us} {i} are deep has =
     has.shallow i (subst (λ vs. IsTooDeep vs i) (readings.one_list text ts us are has.are_tokens) deep.deep)
 
 -- a written deck goes on up to its end
-goes_through : {text : List ℕ} {names : List (List ℕ)} {ts : List Token} {d : WrittenDeck} {i : ℕ} → HasTokens text ts → CannotGoOn ts i → IsWritten text names d → ⊥
-goes_through {text} {names} {ts} {d} {i} has stops w =
-    never_whole ts i stops (subst (λ us. IsWhole line (part deck) us []) (same_tokens w.has_tokens has) (deck_whole w.reads))
+goes_through : {text : List ℕ} {version : ℕ} {names : List (List ℕ)} {ts : List Token} {d : WrittenDeck} {i : ℕ} → HasTokens text ts → CannotGoOn text ts i → IsWritten text version names d → ⊥
+goes_through {text} {ts = ts} {i = i} has stops w =
+    never_whole text ts i stops (subst (IsWholeDeck text) (same_tokens w.has_tokens has) (written_whole w))
 
 -- each phase finds a fault only where those in front of it find none
 one_fault : {text : List ℕ} {p q : ℕ} {c d : Cause} → IsFault text p c → IsFault text q d → (p ≡ q) × (c ≡ d)
@@ -206,14 +219,14 @@ one_fault (bytes not) (bytes never) = (refl, refl)
 one_fault (bytes not) (tokens utf8 f) = absurd (not utf8)
 one_fault (bytes not) (nesting us j utf8 are g) = absurd (not utf8)
 one_fault (bytes not) (syntax us j has g) = absurd (not has.utf8)
-one_fault (bytes not) (check others e w g) = absurd (not w.has_tokens.utf8)
-one_fault (bytes not) (graph others e w ok g) = absurd (not w.has_tokens.utf8)
+one_fault (bytes not) (check version others e w g) = absurd (not w.has_tokens.utf8)
+one_fault (bytes not) (graph version others e w ok g) = absurd (not w.has_tokens.utf8)
 one_fault (tokens utf8 f) (bytes never) = absurd (never utf8)
 one_fault (tokens utf8 f) (tokens too g) = readings.one_fault f g
 one_fault {text} (tokens utf8 f) (nesting us j too are g) = absurd (readings.not_both text us are f)
 one_fault {text} (tokens utf8 f) (syntax us j has g) = absurd (readings.not_both text us has.are_tokens f)
-one_fault {text} (tokens utf8 f) (check others e w g) = absurd (readings.not_both text w.tokens w.has_tokens.are_tokens f)
-one_fault {text} (tokens utf8 f) (graph others e w ok g) = absurd (readings.not_both text w.tokens w.has_tokens.are_tokens f)
+one_fault {text} (tokens utf8 f) (check version others e w g) = absurd (readings.not_both text w.tokens w.has_tokens.are_tokens f)
+one_fault {text} (tokens utf8 f) (graph version others e w ok g) = absurd (readings.not_both text w.tokens w.has_tokens.are_tokens f)
 one_fault (nesting ts i utf8 are f) (bytes never) = absurd (never utf8)
 one_fault {text} (nesting ts i utf8 are f) (tokens too g) = absurd (readings.not_both text ts are g)
 one_fault {text} (nesting ts i utf8 are f) (nesting us j too also g) =
@@ -221,54 +234,54 @@ one_fault {text} (nesting ts i utf8 are f) (nesting us j too also g) =
     let index = one_too_deep us i j (subst (λ vs. IsFirstTooDeep vs i) same f) g in
     (λ k. byte_of text (same k) (index k), refl)
 one_fault (nesting ts i utf8 are f) (syntax us j has g) = absurd (deep_nowhere are f has)
-one_fault (nesting ts i utf8 are f) (check others e w g) = absurd (deep_nowhere are f w.has_tokens)
-one_fault (nesting ts i utf8 are f) (graph others e w ok g) = absurd (deep_nowhere are f w.has_tokens)
+one_fault (nesting ts i utf8 are f) (check version others e w g) = absurd (deep_nowhere are f w.has_tokens)
+one_fault (nesting ts i utf8 are f) (graph version others e w ok g) = absurd (deep_nowhere are f w.has_tokens)
 one_fault (syntax ts i has f) (bytes never) = absurd (never has.utf8)
 one_fault {text} (syntax ts i has f) (tokens too g) = absurd (readings.not_both text ts has.are_tokens g)
 one_fault (syntax ts i has f) (nesting us j too are g) = absurd (deep_nowhere are g has)
 one_fault {text} (syntax ts i has f) (syntax us j also g) =
     let same = same_tokens has also in
-    let index = one_stop us i j (subst (λ vs. CannotGoOn vs i) same f) g in
+    let index = one_stop text us i j (subst (λ vs. CannotGoOn text vs i) same f) g in
     (λ k. byte_of text (same k) (index k), refl)
-one_fault (syntax ts i has f) (check others e w g) = absurd (goes_through has f w)
-one_fault (syntax ts i has f) (graph others e w ok g) = absurd (goes_through has f w)
-one_fault (check names d v f) (bytes never) = absurd (never v.has_tokens.utf8)
-one_fault {text} (check names d v f) (tokens too g) = absurd (readings.not_both text v.tokens v.has_tokens.are_tokens g)
-one_fault (check names d v f) (nesting us j too are g) = absurd (deep_nowhere are g v.has_tokens)
-one_fault (check names d v f) (syntax us j has g) = absurd (goes_through has g v)
-one_fault (check names d v f) (check others e w g) = one_check d f (check_moved (one_written v w).same g)
-one_fault (check names d v f) (graph others e w ok g) = absurd (not_checked e ok (check_moved (one_written w v).same f))
-one_fault (graph names d v ok f) (bytes never) = absurd (never v.has_tokens.utf8)
-one_fault {text} (graph names d v ok f) (tokens too g) = absurd (readings.not_both text v.tokens v.has_tokens.are_tokens g)
-one_fault (graph names d v ok f) (nesting us j too are g) = absurd (deep_nowhere are g v.has_tokens)
-one_fault (graph names d v ok f) (syntax us j has g) = absurd (goes_through has g v)
-one_fault (graph names d v ok f) (check others e w g) = absurd (not_checked d ok (check_moved (one_written v w).same g))
-one_fault (graph names d v ok f) (graph others e w fine g) = one_graph_fault d f (graph_moved (one_written v w).same g)
+one_fault (syntax ts i has f) (check version others e w g) = absurd (goes_through has f w)
+one_fault (syntax ts i has f) (graph version others e w ok g) = absurd (goes_through has f w)
+one_fault (check version names d v f) (bytes never) = absurd (never v.has_tokens.utf8)
+one_fault {text} (check version names d v f) (tokens too g) = absurd (readings.not_both text v.tokens v.has_tokens.are_tokens g)
+one_fault (check version names d v f) (nesting us j too are g) = absurd (deep_nowhere are g v.has_tokens)
+one_fault (check version names d v f) (syntax us j has g) = absurd (goes_through has g v)
+one_fault (check version names d v f) (check other others e w g) = one_check d f (check_moved (one_written v w).same g)
+one_fault (check version names d v f) (graph other others e w ok g) = absurd (not_checked e ok (check_moved (one_written w v).same f))
+one_fault (graph version names d v ok f) (bytes never) = absurd (never v.has_tokens.utf8)
+one_fault {text} (graph version names d v ok f) (tokens too g) = absurd (readings.not_both text v.tokens v.has_tokens.are_tokens g)
+one_fault (graph version names d v ok f) (nesting us j too are g) = absurd (deep_nowhere are g v.has_tokens)
+one_fault (graph version names d v ok f) (syntax us j has g) = absurd (goes_through has g v)
+one_fault (graph version names d v ok f) (check other others e w g) = absurd (not_checked d ok (check_moved (one_written v w).same g))
+one_fault (graph version names d v ok f) (graph other others e w fine g) = one_graph_fault d f (graph_moved (one_written v w).same g)
 
-no_fault : {text : List ℕ} {names : List (List ℕ)} {grammars : List Grammar} {G : QGraph} {p : ℕ} {c : Cause} → IsDeckOf text names grammars G → IsFault text p c → ⊥
+no_fault : {text : List ℕ} {version : ℕ} {names : List (List ℕ)} {grammars : List Grammar} {G : QGraph} {p : ℕ} {c : Cause} → IsDeckOf text version names grammars G → IsFault text p c → ⊥
 no_fault of (bytes never) = never of.is_written.has_tokens.utf8
 no_fault {text} of (tokens utf8 f) = readings.not_both text of.is_written.tokens of.is_written.has_tokens.are_tokens f
 no_fault of (nesting ts i utf8 are f) = deep_nowhere are f of.is_written.has_tokens
 no_fault of (syntax ts i has f) = goes_through has f of.is_written
-no_fault of (check others e w f) = not_checked of.written of.checked (check_moved (one_written of.is_written w).same f)
-no_fault of (graph others e w ok f) =
+no_fault of (check version others e w f) = not_checked of.written of.checked (check_moved (one_written of.is_written w).same f)
+no_fault of (graph version others e w ok f) =
     no_graph_fault of.written of.few (subst IsValid of.graph_is of.valid) (graph_moved (one_written of.is_written w).same f)
 
 -- ---- the answers
 
 -- a text has at most one meaning
-pub one_meaning : {text : List ℕ} {names others : List (List ℕ)} {grammars more : List Grammar} {G H : QGraph}
-    → IsDeckOf text names grammars G → IsDeckOf text others more H → (names ≡ others) × (grammars ≡ more) × (G ≡ H)
+pub one_meaning : {text : List ℕ} {v w : ℕ} {names others : List (List ℕ)} {grammars more : List Grammar} {G H : QGraph}
+    → IsDeckOf text v names grammars G → IsDeckOf text w others more H → (v ≡ w) × (names ≡ others) × (grammars ≡ more) × (G ≡ H)
 one_meaning a b =
     let one = one_written a.is_written b.is_written in
     let grammars = ap (λ (d : WrittenDeck). map meaning_of d.systems) one.same in
     let graphs = ap (λ (d : WrittenDeck). graph_of d.chains) one.same in
-    (one.names_are, a.grammars_are ∙ grammars ∙ sym b.grammars_are, a.graph_is ∙ graphs ∙ sym b.graph_is)
+    (one.versions_are, one.names_are, a.grammars_are ∙ grammars ∙ sym b.grammars_are, a.graph_is ∙ graphs ∙ sym b.graph_is)
 
 -- it has at most one refusal
 pub one_refusal : {text : List ℕ} {r s : Refusal} → IsRefusalOf text r → IsRefusalOf text s → r ≡ s
 one_refusal a b = refusing.one_refusal (λ p q c d f g. one_fault f g) a b
 
 -- and not both
-pub not_both : {text : List ℕ} {names : List (List ℕ)} {grammars : List Grammar} {G : QGraph} {r : Refusal} → IsDeckOf text names grammars G → IsRefusalOf text r → ⊥
+pub not_both : {text : List ℕ} {version : ℕ} {names : List (List ℕ)} {grammars : List Grammar} {G : QGraph} {r : Refusal} → IsDeckOf text version names grammars G → IsRefusalOf text r → ⊥
 not_both of refused = no_fault of refused.fault

@@ -1,5 +1,5 @@
 -- What is known of a deck that was read.
-use Rattle.std.proofs.Common.{◌≡◌, ℕ, ◌+◌, ◌≤◌, ◌<◌, List, [], ◌∷◌, length, filter, refl, sym, ◌∙◌, ap, subst, inl, inr, ◌⊎◌, arith, length-append}
+use Rattle.std.proofs.Common.{◌≡◌, ℕ, ◌+◌, ◌≤◌, ◌<◌, Bool, List, [], ◌∷◌, length, filter, refl, sym, ◌∙◌, ap, subst, inl, inr, ◌⊎◌, arith, length-append}
 use Rattle.std.specs.List.{All}
 use Rattle.std.proofs.lemmas.List.Elements.{All-nil, All-cons, All-append}
 use Rattle.qs_tree.specs.Lists.{◌∈◌}
@@ -13,7 +13,7 @@ use Rattle.qs_check.specs.Checking.{CanBeChecked}
 use Rattle.qs_check.proofs.WhatIsRead.{can_be_checked}
 use Rattle.qs_graphtext.specs.Reading.{IsByteOf}
 use Rattle.qs_deck.specs.WrittenDecks.{WrittenSystem, rules_of}
-use Rattle.qs_deck.specs.Reading.{ReadsSystem, reads_system, ReadsSystems}
+use Rattle.qs_deck.specs.Reading.{ReadsMark, no_mark, a_mark, ReadsSystem, reads_system, ReadsSystems}
 use Rattle.qs_deck.proofs.CheckSteps.{HasFewRules}
 use Rattle.std.specs.Prelude.{not}
 use Rattle.std.proofs.lemmas.List.{length-map}
@@ -68,24 +68,35 @@ module _ (names : List (List ℕ)) (text : List ℕ) where
   rules_byte ts rest (first ∷ raws) h raw (inl e) byte j = byte_of_rule ts h.0 first h.1 byte (subst (λ (r : WrittenRule). byte ∈ r.at) e j)
   rules_byte ts rest (first ∷ raws) h raw (inr i) byte j = let b = rules_byte h.0 rest raws h.2 raw i byte j in (b.0, later_rule ts h.0 first h.1 b.0 b.1, b.2)
 
+  -- a mark
+  mark_few : {ts rest : List Token} {unique : Bool} → ReadsMark ts unique rest → length rest ≤ length ts
+  mark_few no_mark = omega arith
+  mark_few (a_mark is) = omega arith
+
+  mark_later : {ts rest : List Token} {unique : Bool} → ReadsMark ts unique rest → (t : Token) → t ∈ rest → t ∈ ts
+  mark_later no_mark t i = i
+  mark_later (a_mark is) t i = inr i
+
   -- a system
   system_can : (ts rest : List Token) (system : WrittenSystem) → ReadsSystem names text ts system rest → All CanBeChecked system.rules
-  system_can _ rest system (reads_system {ts} w a l s rules) = rules_can ts rest system.rules rules
+  system_can _ rest system (reads_system {ts} w a l m s rules) = rules_can ts rest system.rules rules
 
   system_few : (ts rest : List Token) (system : WrittenSystem) → ReadsSystem names text ts system rest → length system.rules + length rest ≤ length ts
-  system_few _ rest system (reads_system {ts} w a l s rules) = omega (arith, rules_few ts rest system.rules rules)
+  system_few _ rest system (reads_system {ts} w a l m s rules) = omega (arith, mark_few m, rules_few ts rest system.rules rules)
 
   system_later : (ts rest : List Token) (system : WrittenSystem) → ReadsSystem names text ts system rest → (t : Token) → t ∈ rest → t ∈ ts
-  system_later _ rest system (reads_system {ts} w a l s rules) t i = inr (inr (inr (rules_later ts rest system.rules rules t i)))
+  system_later _ rest system (reads_system {ts} w a l m s rules) t i =
+      inr (inr (mark_later m t (inr (rules_later ts rest system.rules rules t i))))
 
   system_rule_byte : (ts rest : List Token) (system : WrittenSystem) → ReadsSystem names text ts system rest → (raw : WrittenRule) → raw ∈ system.rules → (byte : ℕ) → byte ∈ raw.at → IsByteOf ts byte
-  system_rule_byte _ rest system (reads_system {ts} w a l s rules) raw i byte j = let b = rules_byte ts rest system.rules rules raw i byte j in (b.0, inr (inr (inr b.1)), b.2)
+  system_rule_byte _ rest system (reads_system {ts} w a l m s rules) raw i byte j =
+      let b = rules_byte ts rest system.rules rules raw i byte j in (b.0, inr (inr (mark_later m b.0 (inr b.1))), b.2)
 
   system_byte : (ts rest : List Token) (system : WrittenSystem) → ReadsSystem names text ts system rest → IsByteOf ts system.at
-  system_byte _ rest system (reads_system {t} w a l s rules) = (t, inl refl, sym a)
+  system_byte _ rest system (reads_system {t} w a l m s rules) = (t, inl refl, sym a)
 
   system_named : (ts rest : List Token) (system : WrittenSystem) → ReadsSystem names text ts system rest → (system.name.0 < length names) × All (λ raw. IsWellRead (length names) raw.rule) system.rules
-  system_named _ rest system (reads_system {ts} w a l s rules) = (slice_get_within names system.name.0 l.spelling l.named, told_rules names text ts rest system.rules rules)
+  system_named _ rest system (reads_system {ts} w a l m s rules) = (slice_get_within names system.name.0 l.spelling l.named, told_rules names text ts rest system.rules rules)
 
   -- systems
   pub systems_can : (ts rest : List Token) (systems : List WrittenSystem) → ReadsSystems names text ts systems rest → All CanBeChecked (rules_of systems)

@@ -1,6 +1,7 @@
 -- Of a text that is accepted, what makes that its names, its grammars and its graph can be written and read again.
-use Rattle.std.proofs.Common.{◌≡◌, ℕ, ◌+◌, ◌≤◌, false, refl, List, [], ◌∷◌, length, sym, ap, subst, arith, length-append}
+use Rattle.std.proofs.Common.{◌≡◌, ◌⊎◌, ℕ, ◌+◌, ◌≤◌, Bool, true, false, refl, List, [], ◌∷◌, ◌++◌, length, sym, ap, subst, arith, length-append}
 use Rattle.std.specs.List.{All}
+use Rattle.std.proofs.lemmas.List.Elements.{All-tail}
 use Rattle.std.proofs.lemmas.List.{length-map}
 use Rattle.std.proofs.lemmas.Option.{slice_get-get_or}
 use Rattle.std.proofs.lemmas.Map.Made.{distinct_count-le}
@@ -14,8 +15,7 @@ use Rattle.qs_pattern.specs.Rules.{unmarked}
 use Rattle.qs_ruletext.specs.WrittenRules.{WrittenRule}
 use Rattle.qs_ruletext.specs.Rules.{IsWellRead}
 use Rattle.qs_ruletext.specs.Written.{AreOnOneLine, IsRuleToldIn}
-use Rattle.qs_ruletext.proofs.Telling.{rule_later}
-use Rattle.qs_ruletext.proofs.Naming.{grow_distinct}
+use Rattle.qs_reader.proofs.Naming.{grow_distinct}
 use Rattle.qs_ruletext.proofs.OneLine.{names_line}
 use Rattle.qs_graph.specs.Graphs.{QGraph, IsValid}
 use Rattle.qs_graph.specs.Chains.{with_chain}
@@ -24,9 +24,10 @@ use Rattle.qs_graphtext.specs.GraphOfChains.{trees_in, numbers_in, different, de
 use Rattle.qs_graphtext.specs.Texts.{AreArcsNamed}
 use Rattle.qs_graphtext.proofs.GraphsOfChains.{numbers_few}
 use Rattle.qs_deck.specs.WrittenDecks.{WrittenSystem, WrittenDeck}
-use Rattle.qs_deck.specs.Decks.{Grammar, rule_of, meaning_of, IsDeckOf}
+use Rattle.qs_deck.specs.Decks.{Grammar, rule_of, meaning_of, IsWritten, IsDeckOf}
+use Rattle.qs_deck.proofs.Versions.{each_version}
 use Rattle.qs_deck.proofs.WhatIsRead.{systems_named}
-use Rattle.qs_deck.proofs.RulesTold.{systems_told, of_first_version}
+use Rattle.qs_deck.proofs.Told.{systems_told}
 use Rattle.qs_deck.proofs.Meanings.{all_member, chains_whole, arcs_named}
 use Rattle.qs_deck.proofs.DecksReadBack.{IsWritableGrammar}
 
@@ -36,16 +37,24 @@ none_twice i j text e f = absurd cc
 none_ends : AreOnOneLine []
 none_ends k name e = absurd cc
 
+pub all_behind : (P : Token → Type 0) (front body : List Token) → All P (front ++ body) → All P body
+all_behind P [] body all = all
+all_behind P (t ∷ front) body all = all_behind P front body (All-tail P t (front ++ body) all)
+
 -- each token of a text is one
 pub tokens_are : (text : List ℕ) (ts : List Token) → AreTokensOf text ts → All (IsTokenOf text) ts
 tokens_are text ts are k default within = record { tokens = ts; are = are; index = k; there = slice_get-get_or ts k default within }
 
+-- and so is each that stands behind the line of the version
+pub body_are : {text : List ℕ} {version : ℕ} {names : List (List ℕ)} {d : WrittenDeck} (w : IsWritten text version names d) → All (IsTokenOf text) w.body
+body_are {text} w = all_behind (IsTokenOf text) w.front w.body (subst (All (IsTokenOf text)) w.are (tokens_are text w.tokens w.has_tokens.are_tokens))
+
 -- no name holds the end of a line, and no two are equal
-pub names_of_deck : {text : List ℕ} {names : List (List ℕ)} {grammars : List Grammar} {G : QGraph} → IsDeckOf text names grammars G → AreOnOneLine names × AreDistinct names
-names_of_deck {text} {names} is =
+pub names_of_deck : {text : List ℕ} {version : ℕ} {names : List (List ℕ)} {grammars : List Grammar} {G : QGraph} → IsDeckOf text version names grammars G → AreOnOneLine names × AreDistinct names
+names_of_deck {text} {names = names} is =
     let w = is.is_written in (
-      names_line text w.tokens [] names (tokens_are text w.tokens w.has_tokens.are_tokens) none_ends w.names_are,
-      grow_distinct text w.tokens [] names none_twice w.names_are,
+      names_line text w.body [] names (body_are w) none_ends w.names_are,
+      grow_distinct text w.body [] names none_twice w.names_are,
     )
 
 -- chains have fewer inner nodes than trees
@@ -54,48 +63,49 @@ nodes_laid number G [] = omega arith
 nodes_laid number G (c ∷ chains) =
     omega (arith, nodes_laid number (with_chain G (number c.from) c.trees (number c.to)) chains, length-append c.trees (trees_in chains))
 
-module _ {text : List ℕ} {names : List (List ℕ)} {grammars : List Grammar} {G : QGraph} (is : IsDeckOf text names grammars G) where
+module _ {text : List ℕ} {version : ℕ} {names : List (List ℕ)} {grammars : List Grammar} {G : QGraph} (is : IsDeckOf text version names grammars G) where
   abbrev deck : WrittenDeck
   deck = is.written
 
   some_grammar : 1 ≤ length grammars
   some_grammar = omega (arith, is.is_written.reads.some, ap length is.grammars_are, length-map deck.systems meaning_of)
 
-  system_writable : (system : WrittenSystem) → system ∈ deck.systems → IsWritableGrammar (length names) (meaning_of system)
+  system_writable : (system : WrittenSystem) → system ∈ deck.systems → IsWritableGrammar (version_of text) (length names) (meaning_of system)
   system_writable system i =
       let w = is.is_written in
-      let all = tokens_are text w.tokens w.has_tokens.are_tokens in
-      let told = systems_told names text w.tokens (w.reads.first ∷ w.reads.behind) deck.systems all w.reads.systems system i in
-      let old = of_first_version names text w.tokens (w.reads.first ∷ w.reads.behind) deck.systems w.reads.some w.reads.systems w.has_tokens.are_tokens in
-      let known = systems_named names text w.tokens (w.reads.first ∷ w.reads.behind) deck.systems w.reads.systems system i in
+      let told = systems_told names text w.body (w.reads.first ∷ w.reads.behind) deck.systems (body_are w) w.reads.systems system i in
+      let known = systems_named names text w.body (w.reads.first ∷ w.reads.behind) deck.systems w.reads.systems system i in
       record {
         name = known.0;
         rules =
-            from_map rule_of system.rules (λ rule. IsWellRead (length names) (unmarked rule))
+            from_map (rule_of system.unique) system.rules (λ rule. IsWellRead (length names) (unmarked rule))
             (λ raw j. all_member (λ (r : WrittenRule). IsWellRead (length names) r.rule) system.rules raw known.1 j);
-        without_mark = from_map rule_of system.rules (λ rule. rule.unique ≡ false) (λ raw j. refl);
-        told =
-            from_map rule_of system.rules (λ rule. IsRuleToldIn 1 (unmarked rule))
-            (λ raw j. rule_later old raw.rule (all_member (λ (r : WrittenRule). IsRuleToldIn (version_of text) r.rule) system.rules raw told j));
+        marked = from_map (rule_of system.unique) system.rules (λ rule. rule.unique ≡ system.unique) (λ raw j. refl);
+        told = from_map (rule_of system.unique) system.rules (λ rule. IsRuleToldIn (version_of text) (unmarked rule)) (told.0);
+        mark_told = told.1;
       }
 
-  grammar_writable : (grammar : Grammar) → grammar ∈ grammars → IsWritableGrammar (length names) grammar
+  grammar_writable : (grammar : Grammar) → grammar ∈ grammars → IsWritableGrammar (version_of text) (length names) grammar
   grammar_writable grammar i =
-      from_map meaning_of deck.systems (IsWritableGrammar (length names)) system_writable grammar (subst (λ gs. grammar ∈ gs) is.grammars_are i)
+      from_map meaning_of deck.systems (IsWritableGrammar (version_of text) (length names)) system_writable grammar (subst (λ gs. grammar ∈ gs) is.grammars_are i)
 
   -- at most two nodes for each chain, and fewer inner ones than trees
   few_nodes : G.nodes ≤ 999999999
   few_nodes =
       let chains : List WrittenChain = deck.chains in
-      let numbers = numbers_few chains (chains_whole text names deck is.is_written) in
+      let numbers = numbers_few chains (chains_whole text version names deck is.is_written) in
       let laid = nodes_laid (dense (numbers_in chains)) (record { nodes = different (numbers_in chains); arcs = [] }) chains in
       omega (arith, is.few, numbers, laid, distinct_count-le nat_eq (numbers_in chains), ap (λ (H : QGraph). H.nodes) is.graph_is)
 
-  pub writable_deck : (1 ≤ length grammars) × ((grammar : Grammar) → grammar ∈ grammars → IsWritableGrammar (length names) grammar) × IsValid G × (G.nodes ≤ 999999999) × AreArcsNamed (length names) G.arcs
+  -- the version is one of the two
+  pub known_version : (version ≡ 1) ⊎ (version ≡ 2)
+  known_version = subst (λ v. (v ≡ 1) ⊎ (v ≡ 2)) (sym is.is_written.version_is) (each_version text)
+
+  pub writable_deck : (1 ≤ length grammars) × ((grammar : Grammar) → grammar ∈ grammars → IsWritableGrammar (version_of text) (length names) grammar) × IsValid G × (G.nodes ≤ 999999999) × AreArcsNamed (length names) G.arcs
   writable_deck = (
     some_grammar,
     grammar_writable,
     is.valid,
     few_nodes,
-    subst (λ (H : QGraph). AreArcsNamed (length names) H.arcs) (sym is.graph_is) (arcs_named text names deck is.is_written),
+    subst (λ (H : QGraph). AreArcsNamed (length names) H.arcs) (sym is.graph_is) (arcs_named text version names deck is.is_written),
   )

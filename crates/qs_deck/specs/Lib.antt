@@ -2,11 +2,13 @@
 -- and how decks are written. Decks of grammars and a Q-graph are Colmerauer's (1970); their spelling, limits and
 -- refusals are this project's own.
 pub mod Grammar
+pub mod Versions
 pub mod WrittenDecks
 pub mod Reading
 pub mod Syntax
 pub mod Checks
 pub mod Decks
+pub mod Marks
 pub mod Named
 pub mod Refusals
 pub mod Texts

@@ -65,7 +65,7 @@ level_rule i = record {
 
 -- The grammar M has one such rule for each level below k.
 abbrev pub made_grammar : ℕ → Grammar
-made_grammar k = record { name = name_label; rules = map level_rule (range_with_len 0 k) }
+made_grammar k = record { name = name_label; unique = false; rules = map level_rule (range_with_len 0 k) }
 
 -- A word stands in a tree of level 0, as `T0(M1)`.
 abbrev pub word_tree : ℕ → ℕ → Tree

@@ -48,12 +48,12 @@ pub data IsFault (text : List ℕ) : ℕ → Cause → Type 0 where
   tokens : {at : ℕ} {cause : Cause} → IsUtf8 text → IsFirstFault text at cause → IsFault text at cause
   nesting : (ts : List Token) (index : ℕ) → IsUtf8 text → AreTokensOf text ts → IsFirstTooDeep ts index
       → IsFault text (byte_of text ts index) TooDeep
-  syntax : (ts : List Token) (index : ℕ) → HasTokens text ts → CannotGoOn ts index
+  syntax : (ts : List Token) (index : ℕ) → HasTokens text ts → CannotGoOn text ts index
       → IsFault text (byte_of text ts index) Syntax
-  check : (names : List (List ℕ)) (deck : WrittenDeck) {at : ℕ} {cause : Cause}
-      → IsWritten text names deck → IsCheckFault deck at cause → IsFault text at cause
-  graph : (names : List (List ℕ)) (deck : WrittenDeck) {at : ℕ} {cause : Cause}
-      → IsWritten text names deck → IsChecked deck → IsGraphFault deck at cause → IsFault text at cause
+  check : (version : ℕ) (names : List (List ℕ)) (deck : WrittenDeck) {at : ℕ} {cause : Cause}
+      → IsWritten text version names deck → IsCheckFault deck at cause → IsFault text at cause
+  graph : (version : ℕ) (names : List (List ℕ)) (deck : WrittenDeck) {at : ℕ} {cause : Cause}
+      → IsWritten text version names deck → IsChecked deck → IsGraphFault deck at cause → IsFault text at cause
 
 -- The text is refused for its first fault.
 abbrev pub IsRefusalOf : List ℕ → Refusal → Type 0

@@ -18,16 +18,16 @@ use std::alloc::Global;
 /// The most grammars of a deck.
 const MOST_SYSTEMS: usize = 256;
 
-/// The rules, each of which is accepted and unmarked; or the first cause why the first that isn't accepted isn't.
-fn checked_rules(alloc: Global, raws: Vec<RawRule>) -> Result<Vec<Rule>, CheckEnd>
+/// The rules, each of which is accepted, with this mark; or the first cause why the first that isn't accepted isn't.
+fn checked_rules(alloc: Global, raws: Vec<RawRule>, unique: bool) -> Result<Vec<Rule>, CheckEnd>
     requires { All CanBeChecked raws.items }
-    ensures rules { IfOk result (λ rules. rules.items ≡ map rule_of raws.items) }
+    ensures rules { IfOk result (λ rules. rules.items ≡ map (rule_of unique) raws.items) }
     ensures accepted { IfOk result (λ _. AreAccepted raws.items) }
     ensures refused { IfErr result (IsFirstRefused raws.items) }
 {
     let mut rules = Vec::new(alloc);
     for raw in raws {
-        let rule = check(alloc, raw, false)?;
+        let rule = check(alloc, raw, unique)?;
         rules.push(rule)?;
     }
     Ok(rules)
@@ -41,9 +41,18 @@ fn checked_system(alloc: Global, system: RawSystem) -> Result<System, CheckEnd>
     ensures accepted { IfOk result (λ _. AreAccepted system.rules) }
     ensures refused { IfErr result (IsFirstRefused system.rules) }
 {
-    let RawSystem { name, rules, .. } = system;
-    let rules = checked_rules(alloc, rules)?;
-    Ok(System { name, rules })
+    let RawSystem {
+        name,
+        unique,
+        rules,
+        ..
+    } = system;
+    let rules = checked_rules(alloc, rules, unique)?;
+    Ok(System {
+        name,
+        unique,
+        rules,
+    })
 }
 
 /// The grammars, where each of their rules is accepted; or the first cause why the first that isn't accepted isn't.

@@ -1,6 +1,7 @@
 //! Accepted decks.
 
-ghost use Rattle.std.specs.Prelude.{length};
+ghost use Rattle.std.specs.Prelude.{◌≤◌, length};
+ghost use Rattle.std.specs.Coded.{le_prop};
 ghost use Rattle.qs_graphtext.specs.Texts.{AreArcsNamed};
 ghost use Rattle.qs_deck.specs.Named.{AreSystemsNamed};
 ghost use Rattle.qs_deck.specs.working.Named.{AreSystemsNamed-prop, AreArcsNamed-prop};
@@ -11,10 +12,11 @@ use qs_lex::{LexEnd, Refusal};
 use qs_tree::Names;
 use thiserror::Error;
 
-/// A deck: the texts of its labels, its grammars in the order of the text, and its graph.
-/// Each label in it is one of the names.
+/// A deck: the version of its text, 1 or 2, the texts of its labels, its grammars in the order of the text, and its
+/// graph. Each label in it is one of the names.
 #[derive(Drop)]
 pub struct Deck {
+    pub version: u8,
     pub names: Names,
     pub systems: Vec<System>,
     pub graph: Graph,

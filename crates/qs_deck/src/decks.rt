@@ -66,19 +66,19 @@ fn shallow(text: &str, tokens: &[Token]) -> Result<(), FaultEnd>
     }
 }
 
-/// The written deck that these tokens of the text are, and the names of its labels.
-fn written(alloc: Global, text: &str, tokens: &[Token]) -> Result<(Names, RawDeck), FaultEnd>
+/// The version of the text, the written deck that these tokens of it are, and the names of its labels.
+fn written(alloc: Global, text: &str, tokens: &[Token]) -> Result<(u8, Names, RawDeck), FaultEnd>
     requires of_text { AreTokensOf text.now tokens.now }
     requires spans { AreSpansFrom text.now 0 tokens.now }
     requires short { length text.now ≤ 4194304 }
     requires utf8 { IsUtf8 text.now }
     requires shallow { (index : ℕ) → IsTooDeep tokens.now index → ⊥ }
-    ensures written { IfOk result (λ found. IsWritten text.now found.0 found.1) }
+    ensures written { IfOk result (λ found. IsWritten text.now found.0 found.1 found.2) }
     ensures end { IfErr result (IsEndOf text.now) }
 {
     let mut names = Names::new(alloc);
     match read_written(alloc, text, tokens, &mut names) {
-        Ok(deck) => Ok((names, deck)),
+        Ok((version, deck)) => Ok((version, names, deck)),
         Err(TextEnd::Syntax(index)) => Err(FaultEnd::Fault {
             byte: byte_of(text, tokens, index),
             cause: Cause::Syntax,
@@ -107,11 +107,12 @@ fn deck_of_tokens(alloc: Global, text: &str, tokens: &[Token]) -> Result<Deck, F
     requires spans { AreSpansFrom text.now 0 tokens.now }
     requires short { length text.now ≤ 4194304 }
     requires utf8 { IsUtf8 text.now }
-    ensures deck { IfOk result (λ deck. IsDeckOf text.now deck.names (map grammar_of deck.systems.items) deck.graph) }
+    ensures deck { IfOk result (λ deck. IsDeckOf text.now deck.version deck.names
+        (map grammar_of deck.systems.items) deck.graph) }
     ensures end { IfErr result (IsEndOf text.now) }
 {
     shallow(text, tokens)?;
-    let (names, deck) = written(alloc, text, tokens)?;
+    let (version, names, deck) = written(alloc, text, tokens)?;
     let RawDeck {
         systems,
         graph_at,
@@ -120,6 +121,7 @@ fn deck_of_tokens(alloc: Global, text: &str, tokens: &[Token]) -> Result<Deck, F
     let systems = checked(alloc, systems)?;
     match graph_of(alloc, chains) {
         Ok(graph) => Ok(Deck {
+            version,
             names,
             systems,
             graph,
@@ -144,7 +146,8 @@ fn told(text: &str, end: FaultEnd) -> DeckEnd
 fn deck_of_text(alloc: Global, text: &str) -> Result<Deck, DeckEnd>
     requires short { length text.now ≤ 4194304 }
     requires utf8 { IsUtf8 text.now }
-    ensures deck { IfOk result (λ deck. IsDeckOf text.now deck.names (map grammar_of deck.systems.items) deck.graph) }
+    ensures deck { IfOk result (λ deck. IsDeckOf text.now deck.version deck.names
+        (map grammar_of deck.systems.items) deck.graph) }
     ensures end { IfErr result (EndsFor text.now) }
 {
     let tokens = tokens(alloc, text)?;
@@ -157,7 +160,8 @@ fn deck_of_text(alloc: Global, text: &str) -> Result<Deck, DeckEnd>
 /// The deck that the text means, or its first fault.
 fn deck_of_bytes(alloc: Global, bytes: &[u8]) -> Result<Deck, DeckEnd>
     requires { length bytes.now ≤ 4194304 }
-    ensures deck { IfOk result (λ deck. IsDeckOf bytes.now deck.names (map grammar_of deck.systems.items) deck.graph) }
+    ensures deck { IfOk result (λ deck. IsDeckOf bytes.now deck.version deck.names
+        (map grammar_of deck.systems.items) deck.graph) }
     ensures end { IfErr result (EndsFor bytes.now) }
 {
     match str::from_utf8(bytes) {
@@ -175,17 +179,20 @@ fn deck_of_bytes(alloc: Global, bytes: &[u8]) -> Result<Deck, DeckEnd>
 /// What `write_deck` writes of a deck that was read is itself accepted, and means the same deck.
 pub fn read_deck(alloc: Global, bytes: &[u8]) -> Result<Deck, DeckEnd>
     requires { length bytes.now ≤ 4194304 }
-    ensures deck { IfOk result (λ deck. IsDeckOf bytes.now deck.names (map grammar_of deck.systems.items) deck.graph) }
+    ensures deck { IfOk result (λ deck. IsDeckOf bytes.now deck.version deck.names
+        (map grammar_of deck.systems.items) deck.graph) }
     ensures end { IfErr result (EndsFor bytes.now) }
 
     // An accepted text is read, if memory lasts, and one that isn't accepted is refused for its first fault.
-    ensures accepted { (names : List (List ℕ)) (grammars : List Grammar) (graph : QGraph)
-        → IsDeckOf bytes.now names grammars graph → IfErr result (λ end. end ≡ DeckEnd.Memory) }
+    ensures accepted { (version : ℕ) (names : List (List ℕ)) (grammars : List Grammar) (graph : QGraph)
+        → IsDeckOf bytes.now version names grammars graph → IfErr result (λ end. end ≡ DeckEnd.Memory) }
     ensures faulty { (refusal : Refusal) → IsRefusalOf bytes.now refusal → IsErr result }
 
-    // The text of a deck that was read is accepted, with this deck: the same grammars and graph, with the same names.
-    ensures read_back { IfOk result (λ deck. IsDeckOf (deck_text deck.names
-        (map grammar_of deck.systems.items) deck.graph) deck.names (map grammar_of deck.systems.items) deck.graph) }
+    // The text of a deck that was read is accepted, with this deck: the same version, grammars and graph, with the same
+    // names.
+    ensures read_back { IfOk result (λ deck.
+        IsDeckOf (deck_text deck.version deck.names (map grammar_of deck.systems.items) deck.graph)
+        deck.version deck.names (map grammar_of deck.systems.items) deck.graph) }
 {
     one_answer();
     what_is_written_is_read();

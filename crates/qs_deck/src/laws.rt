@@ -9,20 +9,22 @@ ghost use Rattle.qs_deck.specs.Texts.{deck_text};
 
 /// A text has one meaning or one first fault, and not both.
 pub fn one_answer()
-    ensures deck { (text : List ℕ) (names others : List (List ℕ)) (grammars more : List Grammar) (G H : QGraph)
-        → IsDeckOf text names grammars G → IsDeckOf text others more H
-        → (names ≡ others) × (grammars ≡ more) × (G ≡ H) }
+    ensures deck { (text : List ℕ) (v w : ℕ) (names others : List (List ℕ)) (grammars more : List Grammar)
+        → (G H : QGraph) → IsDeckOf text v names grammars G → IsDeckOf text w others more H
+        → (v ≡ w) × (names ≡ others) × (grammars ≡ more) × (G ≡ H) }
     ensures refusal { (text : List ℕ) (r s : Refusal) → IsRefusalOf text r → IsRefusalOf text s → r ≡ s }
     ensures some { (text : List ℕ)
-        → ((names : List (List ℕ)) × (grammars : List Grammar) × (G : QGraph) × IsDeckOf text names grammars G)
+        → ((version : ℕ) × (names : List (List ℕ)) × (grammars : List Grammar) × (G : QGraph)
+        × IsDeckOf text version names grammars G)
         ⊎ ((r : Refusal) × IsRefusalOf text r) }
-    ensures not_both { (text : List ℕ) (names : List (List ℕ)) (grammars : List Grammar) (G : QGraph) (r : Refusal)
-        → IsDeckOf text names grammars G → IsRefusalOf text r → ⊥ }
+    ensures not_both { (text : List ℕ) (version : ℕ) (names : List (List ℕ)) (grammars : List Grammar) (G : QGraph)
+        (r : Refusal) → IsDeckOf text version names grammars G → IsRefusalOf text r → ⊥ }
 {}
 
-/// What is written of a deck that a text means is a text that means this deck: the same grammars and the same graph,
+/// What is written of a deck that a text means is a text that means this deck: the same version, grammars and graph,
 /// with the same names for the labels, in the same order.
 pub fn what_is_written_is_read()
-    ensures { (text : List ℕ) (names : List (List ℕ)) (grammars : List Grammar) (G : QGraph)
-        → IsDeckOf text names grammars G → IsDeckOf (deck_text names grammars G) names grammars G }
+    ensures { (text : List ℕ) (version : ℕ) (names : List (List ℕ)) (grammars : List Grammar) (G : QGraph)
+        → IsDeckOf text version names grammars G
+        → IsDeckOf (deck_text version names grammars G) version names grammars G }
 {}

@@ -15,6 +15,7 @@ mod made_decks;
 mod made_texts;
 mod reading;
 mod system;
+mod version;
 mod writing;
 mod written;
 

@@ -158,7 +158,11 @@ fn made_grammar(alloc: Global, size: u32) -> Result<System, AllocError>
     for level in 0..size {
         rules.push(level_rule(alloc, level)?)?;
     }
-    Ok(System { name: NAME, rules })
+    Ok(System {
+        name: NAME,
+        unique: false,
+        rules,
+    })
 }
 
 /// The tree of a word.
@@ -198,6 +202,7 @@ fn made_graph(alloc: Global, size: u32) -> Result<Graph, AllocError>
 /// into a tree of the next, until one tree is left. The error comes where memory was wanting.
 pub fn made(alloc: Global, size: u32) -> Result<Deck, AllocError>
     requires { size ≤ 13 }
+    ensures version { IfOk result (λ deck. deck.version ≡ 1) }
     ensures names { IfOk result (λ deck. deck.names ≡ made_names size) }
     ensures systems { IfOk result (λ deck. map grammar_of deck.systems.items ≡ made_grammar size ∷ []) }
     ensures graph { IfOk result (λ deck. deck.graph ≡ made_graph size) }
@@ -207,6 +212,7 @@ pub fn made(alloc: Global, size: u32) -> Result<Deck, AllocError>
     systems.push(made_grammar(alloc, size)?)?;
     let graph = made_graph(alloc, size)?;
     Ok(Deck {
+        version: 1,
         names,
         systems,
         graph,

@@ -5,7 +5,7 @@ ghost use Rattle.qs_tree.specs.Lists.{◌∈◌};
 ghost use Rattle.qs_pattern.specs.Rules.{Rule};
 ghost use Rattle.qs_deck.specs.Decks.{grammar_of};
 ghost use Rattle.qs_deck.specs.Named.{IsRuleNamed, IsSystemNamed, AreSystemsNamed};
-ghost use Rattle.qs_deck.specs.Texts.{rule_line, grammar_text, deck_text};
+ghost use Rattle.qs_deck.specs.Texts.{rule_line, grammar_text, mark_text, version_text, deck_text};
 
 use crate::deck::Deck;
 use crate::system::System;
@@ -15,11 +15,12 @@ use qs_ruletext::write_rule;
 use qs_tree::{Names, write_label};
 use std::alloc::{AllocError, Global};
 
-/// Appends the deck in canonical spelling: for each grammar the line `-SYSTEME- S.` and a line for each rule, then the
-/// graph. Where there is no memory, `out` is left as it was.
+/// Appends the deck in canonical spelling: in version 2 the line `-VERSION- 2.`; then for each grammar the line
+/// `-SYSTEME- S.`, or `-SYSTEME- S -UNIQUE-.` where it is marked, and a line for each rule; then the graph. Where there
+/// is no memory, `out` is left as it was.
 pub fn write_deck(alloc: Global, deck: &Deck, out: &mut Vec<u8>) -> Result<(), AllocError>
-    ensures ok { OnOk result (out.new.items
-        ≡ out.old.items ++ deck_text deck.now.names (map grammar_of deck.now.systems.items) deck.now.graph) }
+    ensures ok { OnOk result (out.new.items ≡ out.old.items
+        ++ deck_text deck.now.version deck.now.names (map grammar_of deck.now.systems.items) deck.now.graph) }
     ensures err { OnErr result (out.new.items ≡ out.old.items) }
 {
     let before = out.len();
@@ -32,12 +33,24 @@ pub fn write_deck(alloc: Global, deck: &Deck, out: &mut Vec<u8>) -> Result<(), A
 
 /// Appends the deck. After an error, a part of it may stand in `out`.
 fn append_deck(alloc: Global, deck: &Deck, out: &mut Vec<u8>) -> Result<(), AllocError>
-    ensures ok { OnOk result (out.new.items
-        ≡ out.old.items ++ deck_text deck.now.names (map grammar_of deck.now.systems.items) deck.now.graph) }
+    ensures ok { OnOk result (out.new.items ≡ out.old.items
+        ++ deck_text deck.now.version deck.now.names (map grammar_of deck.now.systems.items) deck.now.graph) }
     ensures err { OnErr result (take (length out.old.items) out.new.items ≡ out.old.items) }
 {
+    append_version(deck.version, out)?;
     append_systems(alloc, &deck.names, &deck.systems, out)?;
     write_graph(alloc, &deck.graph, &deck.names, out)
+}
+
+/// Appends the line of the version, which is there in version 2 alone. After an error, a part of it may stand in `out`.
+fn append_version(version: u8, out: &mut Vec<u8>) -> Result<(), AllocError>
+    ensures ok { OnOk result (out.new.items ≡ out.old.items ++ version_text version) }
+    ensures err { OnErr result (take (length out.old.items) out.new.items ≡ out.old.items) }
+{
+    if version == 2 {
+        out.extend_from_slice(b"-VERSION- 2.\n")?;
+    }
+    Ok(())
 }
 
 /// Appends the grammars. After an error, a part of them may stand in `out`.
@@ -58,7 +71,18 @@ fn append_systems(
     Ok(())
 }
 
-/// Appends the grammar: the line of its name, and a line for each rule. After an error,
+/// Appends the mark of a grammar that has it. After an error, a part of it may stand in `out`.
+fn append_mark(unique: bool, out: &mut Vec<u8>) -> Result<(), AllocError>
+    ensures ok { OnOk result (out.new.items ≡ out.old.items ++ mark_text unique) }
+    ensures err { OnErr result (take (length out.old.items) out.new.items ≡ out.old.items) }
+{
+    if unique {
+        out.extend_from_slice(b" -UNIQUE-")?;
+    }
+    Ok(())
+}
+
+/// Appends the grammar: the line of its name, with its mark if it has it, and a line for each rule. After an error,
 /// a part of it may stand in `out`.
 fn append_system(
     alloc: Global,
@@ -72,6 +96,7 @@ fn append_system(
 {
     out.extend_from_slice(b"-SYSTEME- ")?;
     write_label(names, system.name, out)?;
+    append_mark(system.unique, out)?;
     out.extend_from_slice(b".\n")?;
     append_rules(alloc, names, &system.rules, out)
 }

@@ -5,12 +5,13 @@ use qs_ruletext::RawRule;
 use qs_tree::Label;
 use std::marker::Model;
 
-/// A grammar as it was read: the byte of the text at which its word `-SYSTEME-` begins, its name, and its rules, which
-/// may or may not be accepted.
+/// A grammar as it was read: the byte of the text at which its word `-SYSTEME-` begins, its name, whether it is marked
+/// with the word `-UNIQUE-`, and its rules, which may or may not be accepted.
 #[derive(Drop)]
 pub struct RawSystem {
     pub at: u32,
     pub name: Label,
+    pub unique: bool,
     pub rules: Vec<RawRule>,
 }
 
@@ -22,7 +23,7 @@ impl Model for RawSystem {
 
     ghost coded = { system_code };
 
-    ghost view = { λ s. record { at = s.at; name = s.name; rules = s.rules.items } };
+    ghost view = { λ s. record { at = s.at; name = s.name; unique = s.unique; rules = s.rules.items } };
 }
 
 /// A deck as it was read: its grammars, of which there may be too many, the byte of the text at which the word

@@ -5,8 +5,8 @@ use Rattle.qs_lex.specs.Grammar.{part, IsWhole}
 use Rattle.qs_lex.proofs.OneEnd.{IsStuck, stuck_not_whole}
 use Rattle.qs_reader.specs.declared.text_end.TextEnd.{TextEnd}
 use Rattle.qs_reader.specs.declared.text_end.TextEnd.TheVariants.{Syntax, Memory}
-use Rattle.qs_ruletext.specs.Rules.{between}
-use Rattle.qs_ruletext.proofs.Between.{next_at, between_drop}
+use Rattle.qs_reader.specs.Readers.{between}
+use Rattle.qs_reader.proofs.Between.{next_at, between_drop}
 use Rattle.qs_graphtext.specs.Grammar.{graph, line}
 use Rattle.qs_graphtext.specs.working.Readers.{table}
 use Rattle.qs_graphtext.specs.Refusals.{CannotGoOn, EndsFrom}
@@ -17,7 +17,7 @@ stuck tokens from at c =
     record {
       passed = between tokens from at;
       rest = drop at tokens;
-      are = sym (between_drop tokens from at c.begun);
+      are = sym (between_drop tokens from at c.forward);
       begins = c.begins;
       not_whole = c.not_whole;
       no_further = λ t us e b. c.no_further t (next_at tokens us at t e) b;

@@ -1,5 +1,4 @@
 pub mod Tables
-pub mod Repeating
 pub mod Bytes
 pub mod Cells
 pub mod PlainSteps

@@ -1,5 +1,5 @@
 -- In a valid graph each node stands on an arc.
-use Rattle.std.proofs.Common.{◌≡◌, ◌≢◌, ◌⊎◌, ℕ, ◌+◌, ◌<◌, refl, sym, ◌∙◌, subst, inl, inr, List, [], ◌∷◌, length, map, arith}
+use Rattle.std.proofs.Common.{◌≡◌, ◌≢◌, ◌⊎◌, ℕ, ◌<◌, refl, sym, ◌∙◌, subst, inl, inr, List, [], ◌∷◌, length, map, arith}
 use Rattle.qs_tree.specs.Lists.{◌∈◌}
 use Rattle.qs_tree.proofs.Members.{mapped, in_map}
 use Rattle.qs_graph.specs.Graphs.{Arc, QGraph, IsNode, IsValid}

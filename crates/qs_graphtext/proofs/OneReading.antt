@@ -11,7 +11,7 @@ use Rattle.qs_tree.specs.Trees.{Forest, first_tree, Tree}
 use Rattle.qs_ruletext.proofs.OneReading.{fails_for, fails_not, one_sort, next_weaker, same_rest, same_token, one_label}
 use Rattle.qs_graphtext.specs.WrittenChains.{WrittenChain}
 use Rattle.qs_graphtext.specs.Reading.{ReadsPlain, reads_plain, ReadsSubtrees, no_parentheses, nothing_inside, plains_inside, ReadsPlains, reads_plains, ReadsMorePlains, no_more_plains, one_more_plain, ReadsRooted, reads_rooted, ReadsTrees, reads_trees, ReadsMoreTrees, no_more_trees, one_more_tree, ReadsChain, reads_chain, ReadsChains, reads_chains, ReadsMoreChains, no_more_chains, one_more_chain, ReadsGraph, reads_graph}
-use Rattle.qs_graphtext.proofs.Whole.{label_sort}
+use Rattle.qs_reader.proofs.Tokens.{label_sort}
 
 -- with which sorts a tree, trees in parentheses, the trees of a chain and chains may go on
 abbrev after_plain : Sort → Bool

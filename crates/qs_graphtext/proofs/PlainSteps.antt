@@ -1,182 +1,78 @@
 -- The steps of the reader of trees.
-use Rattle.std.proofs.Common.{◌≡◌, ℕ, ◌+◌, ◌≤◌, false, refl, sym, ◌∙◌, ap, subst, ⊎_elim, List, [], ◌∷◌, length, arith}
+use Rattle.std.proofs.Common.{◌≡◌, ℕ, refl, sym, subst, List}
 use Rattle.qs_lex.specs.declared.token.Token.{Token}
-use Rattle.qs_lex.specs.Tokens.{IsLabel}
-use Rattle.qs_lex.specs.Grammar.{a_label, opening, closing, comma, sort_of, IsOf, Form, one, part, ◌·◌, optional, repeated}
-use Rattle.qs_lex.specs.Expecting.{same_sort, NextIsNo}
-use Rattle.qs_lex.specs.working.Expecting.{starts, Leads}
-use Rattle.qs_lex.proofs.Going.{leads_same, leads_on, leads_part, leads_sequence, leads_without, leads_with}
+use Rattle.qs_lex.specs.Grammar.{a_label as the_label, opening, closing, comma, part}
 use Rattle.qs_tree.specs.declared.cell.Label.{Label}
 use Rattle.qs_tree.specs.Trees.{Forest, no_tree, first_tree, Tree}
 use Rattle.qs_tree.specs.working.Trees.{join}
 use Rattle.qs_tree.specs.working.Cells.{join-no_tree}
-use Rattle.qs_ruletext.specs.declared.cursor.Halt.{Halt}
-use Rattle.qs_ruletext.specs.declared.cursor.Halt.TheVariants.{Syntax}
-use Rattle.qs_ruletext.specs.Reading.{IsLabelOf}
-use Rattle.qs_ruletext.specs.Rules.{KeepsNames}
-use Rattle.qs_ruletext.specs.Names.{AddsNameOf}
-use Rattle.qs_ruletext.specs.Cursors.{IsNext}
-use Rattle.qs_ruletext.proofs.Naming.{no_names, names_on, one_name, sign_names}
-use Rattle.qs_graphtext.specs.Grammar.{Part, plain, line}
+use Rattle.qs_reader.specs.declared.text_end.TextEnd.{TextEnd}
+use Rattle.qs_reader.specs.Readers.{Reading, Passes, Stays, NamesLabel, EndsHere}
+use Rattle.qs_reader.specs.working.Readers.{Reads, AToken, a_token, ALabel, a_label, Nothing, nothing, Then, then}
+use Rattle.qs_reader.proofs.Steps.{token_read, label_read, left_out_read, absent_read, then_read, read_so, member_read, part_read, stayed_read, stayed_ends, token_ends, part_ends, first_ends, then_ends, member_ends, before_ends}
+use Rattle.qs_graphtext.specs.Grammar.{plain}
 use Rattle.qs_graphtext.specs.Reading.{ReadsPlain, reads_plain, ReadsSubtrees, no_parentheses, nothing_inside, plains_inside, ReadsPlains, reads_plains, ReadsMorePlains, no_more_plains, one_more_plain}
-use Rattle.qs_graphtext.specs.working.Readers.{table, Readable, Passes, Ends, IsRead, plains_with, in_parentheses}
-use Rattle.qs_graphtext.proofs.Tables.{ok, next_is_no, not_at_end, token, readable_rest, next_length, ends_on, ends_here}
+use Rattle.qs_graphtext.specs.working.Readers.{IsRead, Ends, plains_with, in_parentheses, APlain, Subtrees, Plains}
 use Rattle.qs_graphtext.proofs.Cells.{join_assoc}
 
-abbrev pub Plains : Form Part
-Plains = part plain · repeated (one comma · part plain)
+-- what may stand in parentheses behind a label
+nothing_there : (names : List (List ℕ)) (text : List ℕ) (ts rest : List Token) → Nothing names text ts rest → ReadsSubtrees names text ts no_tree rest
+nothing_there names text ts rest nothing = no_parentheses
 
-abbrev pub Inside : Form Part
-Inside = optional Plains · one closing
+pub read_no_subtrees : {r s : Reading} (names : List (List ℕ)) → Stays opening r s → IsRead in_parentheses (Subtrees no_tree) r s names names
+read_no_subtrees names st = read_so nothing_there (left_out_read names st.none st)
 
--- no parenthesis stands next
-no_subtrees : (behind : List (Form Part)) (ts : List Token) → NextIsNo (same_sort opening) ts → Leads line (in_parentheses ∷ behind) ts behind ts
-no_subtrees behind ts n = leads_without (one opening · Inside) behind ts ok refl n
+nothing_in_them : (names : List (List ℕ)) (text : List ℕ) (ts rest : List Token) → Then (AToken opening) (Then Nothing (AToken closing)) names text ts rest → ReadsSubtrees names text ts no_tree rest
+nothing_in_them names text ts rest (then (a_token o) (then nothing (a_token c))) = nothing_inside o c
 
--- one does
-opened : (behind : List (Form Part)) (ts inside : List Token) → starts table behind opening ≡ false → IsNext opening ts inside
-    → Leads line (in_parentheses ∷ behind) ts (optional Plains ∷ one closing ∷ behind) inside
-opened behind ts inside shut n =
-    leads_on (leads_with (one opening · Inside) behind ts ok (not_at_end opening ts inside behind n) (next_is_no (starts table behind) opening ts inside shut n))
-    (leads_on (leads_sequence line (one opening) Inside behind ts)
-    (leads_on (token opening (Inside ∷ behind) ts inside n)
-    (leads_sequence line (optional Plains) (one closing) behind inside)))
+pub read_nothing_inside : {r s u : Reading} (names : List (List ℕ)) → Passes opening r s → Passes closing s u → IsRead in_parentheses (Subtrees no_tree) r u names names
+read_nothing_inside names p q = read_so nothing_in_them (member_read (then_read (token_read names refl p) (then_read (absent_read names refl q) (token_read names refl q))))
 
-closed_at_once : (behind : List (Form Part)) (ts inside rest : List Token) → starts table behind opening ≡ false → IsNext opening ts inside → IsNext closing inside rest
-    → Leads line (in_parentheses ∷ behind) ts behind rest
-closed_at_once behind ts inside rest shut n m =
-    leads_on (opened behind ts inside shut n)
-    (leads_on (leads_without Plains (one closing ∷ behind) inside ok refl (next_is_no (same_sort a_label) closing inside rest refl m))
-    (token closing behind inside rest m))
+plains_in_them : {kids : Forest} (names : List (List ℕ)) (text : List ℕ) (ts rest : List Token) → Then (AToken opening) (Then (Plains kids) (AToken closing)) names text ts rest
+    → ReadsSubtrees names text ts kids rest
+plains_in_them names text ts rest (then (a_token o) (then p (a_token c))) = plains_inside o p c
 
-to_plains : (behind : List (Form Part)) (ts inside : List Token) → starts table behind opening ≡ false → IsNext opening ts inside → NextIsNo (same_sort closing) inside
-    → Leads line (in_parentheses ∷ behind) ts (part plain ∷ repeated (one comma · part plain) ∷ one closing ∷ behind) inside
-to_plains behind ts inside shut n m =
-    leads_on (opened behind ts inside shut n)
-    (leads_on (leads_with Plains (one closing ∷ behind) inside ok (λ e. refl) m)
-    (leads_sequence line (part plain) (repeated (one comma · part plain)) (one closing ∷ behind) inside))
+pub read_plains_inside : {kids : Forest} {r s u v w : Reading} {old new : List (List ℕ)} → Passes opening r s → Stays closing s u
+    → IsRead (plains_with comma) (Plains kids) u v old new → Passes closing v w
+    → IsRead in_parentheses (Subtrees kids) r w old new
+read_plains_inside {old} {new} p st a q = read_so plains_in_them (member_read (then_read (token_read old refl p) (then_read (stayed_read st (member_read a)) (token_read new refl q))))
 
-closed : (behind : List (Form Part)) (ts inside end rest : List Token) → starts table behind opening ≡ false → IsNext opening ts inside → NextIsNo (same_sort closing) inside
-    → Passes (plains_with comma) (comma ∷ opening ∷ []) inside end → IsNext closing end rest
-    → Leads line (in_parentheses ∷ behind) ts behind rest
-closed behind ts inside end rest shut n m p k =
-    leads_on (to_plains behind ts inside shut n m) (leads_on (p (one closing ∷ behind) (refl, (refl, tt))) (token closing behind end rest k))
+pub ends_in_plains : {r s u : Reading} {end : TextEnd} → Passes opening r s → Stays closing s u → Ends (plains_with comma) u end → Ends in_parentheses r end
+ends_in_plains p st e = member_ends p (before_ends refl st.none (stayed_ends st e))
 
-pub read_no_subtrees : (text : List ℕ) (names : List (List ℕ)) (ts : List Token) → Readable text ts → NextIsNo (same_sort opening) ts
-    → IsRead (in_parentheses ∷ []) (opening ∷ []) (λ later. ReadsSubtrees later text ts no_tree ts) text ts ts names names
-read_no_subtrees text names ts r n =
-    record {
-      reads = λ later k. no_parentheses;
-      passes = λ behind f. no_subtrees behind ts n;
-      readable = r;
-      names = no_names text ts names;
-      room = omega arith;
-      no_longer = omega arith;
-    }
+pub ends_unclosed : {R : Reads} {r s u v : Reading} {old new : List (List ℕ)} {end : TextEnd} → Passes opening r s → Stays closing s u
+    → IsRead (plains_with comma) R u v old new → EndsHere closing v end → Ends in_parentheses r end
+ends_unclosed p st a e = member_ends p (then_ends (stayed_read st (member_read a)) (token_ends e))
 
-pub read_nothing_inside : (text : List ℕ) (names : List (List ℕ)) (ts inside rest : List Token) → Readable text ts
-    → IsNext opening ts inside → IsNext closing inside rest
-    → IsRead (in_parentheses ∷ []) (opening ∷ []) (λ later. ReadsSubtrees later text ts no_tree rest) text ts rest names names
-read_nothing_inside text names ts inside rest r n m =
-    let are : ts ≡ n.0 ∷ m.0 ∷ rest = n.1 ∙ ap (λ us. n.0 ∷ us) m.1 in
-    let outer = next_length opening ts inside n in
-    let inner = next_length closing inside rest m in
-    record {
-      reads = λ later k. subst (λ us. ReadsSubtrees later text us no_tree rest) (sym are) (nothing_inside n.2 m.2);
-      passes = λ behind f. closed_at_once behind ts inside rest f.0 n m;
-      readable = readable_rest text inside rest m.0 m.1 (readable_rest text ts inside n.0 n.1 r);
-      names = names_on text ts inside rest names names names (sign_names opening text ts inside names refl n) (sign_names closing text inside rest names refl m);
-      room = omega (arith, outer, inner);
-      no_longer = omega (arith, outer, inner);
-    }
+-- a tree
+node_of : {label : Label} {kids : Forest} (names : List (List ℕ)) (text : List ℕ) (ts rest : List Token) → Then (ALabel label) (Subtrees kids) names text ts rest
+    → ReadsPlain names text ts (record { root = label; subtrees = kids }) rest
+node_of names text ts rest (then (a_label is) below) = reads_plain is below
 
-pub read_plains_inside : (text : List ℕ) (old new : List (List ℕ)) (ts inside end rest : List Token) (kids : Forest)
-    → IsNext opening ts inside → NextIsNo (same_sort closing) inside
-    → IsRead (plains_with comma) (comma ∷ opening ∷ []) (λ later. ReadsPlains later text inside kids end) text inside end old new
-    → IsNext closing end rest
-    → IsRead (in_parentheses ∷ []) (opening ∷ []) (λ later. ReadsSubtrees later text ts kids rest) text ts rest old new
-read_plains_inside text old new ts inside end rest kids n shut found m =
-    let outer = next_length opening ts inside n in
-    let inner = next_length closing end rest m in
-    record {
-      reads = λ later k.
-          let whole : ReadsPlains later text inside kids (m.0 ∷ rest) = subst (λ us. ReadsPlains later text inside kids us) m.1 (found.reads later k) in
-          subst (λ us. ReadsSubtrees later text us kids rest) (sym n.1) (plains_inside n.2 whole m.2);
-      passes = λ behind f. closed behind ts inside end rest f.0 n shut found.passes m;
-      readable = readable_rest text end rest m.0 m.1 found.readable;
-      names = names_on text ts inside rest old old new (sign_names opening text ts inside old refl n) (names_on text inside end rest old new new found.names (sign_names closing text end rest new refl m));
-      room = omega (arith, outer, inner, found.room);
-      no_longer = omega (arith, outer, inner, found.no_longer);
-    }
+pub read_node : {label : Label} {kids : Forest} {r s u : Reading} {old middle new : List (List ℕ)} → NamesLabel label r s old middle → IsRead in_parentheses (Subtrees kids) s u middle new
+    → IsRead (part plain) (APlain (record { root = label; subtrees = kids })) r u old new
+read_node n a = part_read (read_so node_of (then_read (label_read n) a))
 
-pub ends_in_plains : (ts inside : List Token) (halt : Halt) → IsNext opening ts inside → NextIsNo (same_sort closing) inside
-    → Ends (plains_with comma) (comma ∷ opening ∷ []) inside halt → Ends (in_parentheses ∷ []) (opening ∷ []) ts halt
-ends_in_plains ts inside halt n shut e =
-    ends_on (in_parentheses ∷ []) (plains_with comma) (opening ∷ []) (comma ∷ opening ∷ []) ts inside halt
-    (λ behind f. (one closing ∷ behind, (refl, (refl, tt)), to_plains behind ts inside f.0 n shut)) e
+pub ends_at_label : {r : Reading} {end : TextEnd} → EndsHere the_label r end → Ends (part plain) r end
+ends_at_label e = part_ends (first_ends (token_ends e))
 
-pub ends_unclosed : (text : List ℕ) (old new : List (List ℕ)) (Reads : List (List ℕ) → Type 0) (ts inside end : List Token) → IsNext opening ts inside → NextIsNo (same_sort closing) inside
-    → IsRead (plains_with comma) (comma ∷ opening ∷ []) Reads text inside end old new → NextIsNo (same_sort closing) end
-    → Ends (in_parentheses ∷ []) (opening ∷ []) ts (Syntax (length end))
-ends_unclosed text old new Reads ts inside end n shut found m =
-    ends_here (in_parentheses ∷ []) (opening ∷ []) ts end
-    (λ behind f. (one closing ∷ behind, leads_on (to_plains behind ts inside f.0 n shut) (found.passes (one closing ∷ behind) (refl, (refl, tt))), m, refl))
+pub ends_in_subtrees : {label : Label} {r s : Reading} {old new : List (List ℕ)} {end : TextEnd} → NamesLabel label r s old new → Ends in_parentheses s end → Ends (part plain) r end
+ends_in_subtrees n e = part_ends (then_ends (label_read n) e)
 
--- a tree: its label, and subtrees may follow
-pub label_sort : (t : Token) → IsLabel t → IsOf a_label t
-label_sort t h = ⊎_elim (λ e. ap sort_of e) (λ e. ap sort_of e) h
+pub same_tree : {t u : Tree} {r s : Reading} {old new : List (List ℕ)} → u ≡ t → IsRead (part plain) (APlain t) r s old new → IsRead (part plain) (APlain u) r s old new
+same_tree {r} {s} {old} {new} e a = subst (λ x. IsRead (part plain) (APlain x) r s old new) (sym e) a
 
-after_label : (behind : List (Form Part)) (ts rest : List Token) → IsNext a_label ts rest → Leads line (part plain ∷ behind) ts (in_parentheses ∷ behind) rest
-after_label behind ts rest n =
-    leads_on (leads_part line plain behind ts)
-    (leads_on (leads_sequence line (one a_label) in_parentheses behind ts)
-    (token a_label (in_parentheses ∷ behind) ts rest n))
+-- trees of which these are read, and whatever is read behind them, are read whole
+abbrev pub CompletesPlains : Forest → Reads
+CompletesPlains trees names text ts rest = (behind : Forest) (end : List Token) → ReadsMorePlains names text rest behind end → ReadsPlains names text ts (join trees behind) end
 
--- `of` gives the label in any names that keep the present ones
-pub read_node : (text : List ℕ) (old middle new : List (List ℕ)) (t : Token) (label : Label) (ts rest end : List Token) (kids : Forest)
-    → ts ≡ t ∷ rest → IsLabel t
-    → ((later : List (List ℕ)) → KeepsNames middle later → IsLabelOf later text t label) → AddsNameOf text t old middle → length middle ≤ length old + 1 → KeepsNames middle new
-    → IsRead (in_parentheses ∷ []) (opening ∷ []) (λ later. ReadsSubtrees later text rest kids end) text rest end middle new
-    → IsRead (part plain ∷ []) (opening ∷ []) (λ later. ReadsPlain later text ts (record { root = label; subtrees = kids }) end) text ts end old new
-read_node text old middle new t label ts rest end kids e is of adds few keeps found =
-    let shorter : length ts ≡ length rest + 1 = ap length e ∙ omega arith in
-    record {
-      reads = λ later k.
-          subst (λ us. ReadsPlain later text us (record { root = label; subtrees = kids }) end) (sym e) (reads_plain (of later (λ j x i. k j x (keeps j x i))) (found.reads later k));
-      passes = λ behind f. leads_on (after_label behind ts rest (t, e, label_sort t is)) (found.passes behind f);
-      readable = found.readable;
-      names = names_on text ts rest end old middle new (one_name text ts rest t old middle e adds) found.names;
-      room = omega (arith, shorter, few, found.room);
-      no_longer = omega (arith, shorter, found.no_longer);
-    }
+pub plains_first : {t : Tree} (names : List (List ℕ)) (text : List ℕ) (ts rest : List Token) → ReadsPlain names text ts t rest → CompletesPlains (first_tree t.root t.subtrees no_tree) names text ts rest
+plains_first names text ts rest r behind end more = reads_plains r more
 
-pub ends_in_subtrees : (t : Token) (ts rest : List Token) (halt : Halt) → ts ≡ t ∷ rest → IsLabel t
-    → Ends (in_parentheses ∷ []) (opening ∷ []) rest halt → Ends (part plain ∷ []) (opening ∷ []) ts halt
-ends_in_subtrees t ts rest halt e is found =
-    ends_on (part plain ∷ []) (in_parentheses ∷ []) (opening ∷ []) (opening ∷ []) ts rest halt (λ behind f. (behind, f, after_label behind ts rest (t, e, label_sort t is))) found
+pub plains_next : {t : Tree} (trees : Forest) (names : List (List ℕ)) (text : List ℕ) (ts us rest : List Token)
+    → CompletesPlains trees names text ts us → Then (AToken comma) (APlain t) names text us rest → CompletesPlains (join trees (first_tree t.root t.subtrees no_tree)) names text ts rest
+plains_next {t} trees names text ts us rest before (then (a_token c) r) behind end more =
+    subst (λ f. ReadsPlains names text ts f end) (sym (join_assoc trees (first_tree t.root t.subtrees no_tree) behind)) (before (first_tree t.root t.subtrees behind) end (one_more_plain c r more))
 
-pub ends_at_plain : (ts : List Token) → NextIsNo (same_sort a_label) ts → Ends (part plain ∷ []) (opening ∷ []) ts (Syntax (length ts))
-ends_at_plain ts n = ends_here (part plain ∷ []) (opening ∷ []) ts ts (λ behind f. (part plain ∷ behind, leads_same line (part plain ∷ behind) ts, n, refl))
-
--- what the loop over trees has read so far, and what that makes of the trees that follow
-pub one_tree : (text : List ℕ) (ts rest : List Token) (t : Tree) (later : List (List ℕ)) → ReadsPlain later text ts t rest
-    → (behind : Forest) (end : List Token) → ReadsMorePlains later text rest behind end → ReadsPlains later text ts (join (first_tree t.root t.subtrees no_tree) behind) end
-one_tree text ts rest t later r behind end more = reads_plains r more
-
-pub one_more : (text : List ℕ) (ts rest after middle : List Token) (so_far : Forest) (t : Tree) (later : List (List ℕ)) → IsNext comma rest after
-    → ((behind : Forest) (end : List Token) → ReadsMorePlains later text rest behind end → ReadsPlains later text ts (join so_far behind) end)
-    → ReadsPlain later text after t middle
-    → (behind : Forest) (end : List Token) → ReadsMorePlains later text middle behind end → ReadsPlains later text ts (join (join so_far (first_tree t.root t.subtrees no_tree)) behind) end
-one_more text ts rest after middle so_far t later n before r behind end more =
-    subst (λ f. ReadsPlains later text ts f end) (sym (join_assoc so_far (first_tree t.root t.subtrees no_tree) behind))
-    (before (first_tree t.root t.subtrees behind) end (subst (λ us. ReadsMorePlains later text us (first_tree t.root t.subtrees behind) end) (sym n.1) (one_more_plain n.2 r more)))
-
-pub all_read : (text : List ℕ) (ts rest : List Token) (so_far : Forest) (later : List (List ℕ))
-    → ((behind : Forest) (end : List Token) → ReadsMorePlains later text rest behind end → ReadsPlains later text ts (join so_far behind) end)
-    → ReadsPlains later text ts so_far rest
-all_read text ts rest so_far later before = subst (λ f. ReadsPlains later text ts f rest) (join-no_tree so_far) (before no_tree rest no_more_plains)
-
-pub same_tree : (text : List ℕ) (old new : List (List ℕ)) (ts rest : List Token) (t u : Tree) → u ≡ t
-    → IsRead (part plain ∷ []) (opening ∷ []) (λ later. ReadsPlain later text ts t rest) text ts rest old new
-    → IsRead (part plain ∷ []) (opening ∷ []) (λ later. ReadsPlain later text ts u rest) text ts rest old new
-same_tree text old new ts rest t u e found = subst (λ x. IsRead (part plain ∷ []) (opening ∷ []) (λ later. ReadsPlain later text ts x rest) text ts rest old new) (sym e) found
+pub plains_last : {trees : Forest} (names : List (List ℕ)) (text : List ℕ) (ts rest : List Token) → CompletesPlains trees names text ts rest → ReadsPlains names text ts trees rest
+plains_last {trees} names text ts rest whole = subst (λ f. ReadsPlains names text ts f rest) (join-no_tree trees) (whole no_tree rest no_more_plains)

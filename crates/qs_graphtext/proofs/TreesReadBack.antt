@@ -7,7 +7,7 @@ use Rattle.qs_tree.specs.declared.cell.Label.{Label}
 use Rattle.qs_tree.specs.Text.{name_of, label_text, in_parentheses, behind_comma, forest_text, tree_text, AreNamed, IsNamed}
 use Rattle.qs_tree.specs.Trees.{Forest, no_tree, first_tree, Tree}
 use Rattle.qs_pattern.specs.declared.pattern.Head.TheVariants as head
-use Rattle.qs_ruletext.specs.Reading.{IsLabelOf}
+use Rattle.qs_reader.specs.Names.{IsLabelOf}
 use Rattle.qs_ruletext.specs.Written.{AreOnOneLine}
 use Rattle.qs_ruletext.proofs.ReadBack.{Goes, both, turned, nothing, token}
 use Rattle.qs_ruletext.proofs.HeadsReadBack.{Closes, head_goes}

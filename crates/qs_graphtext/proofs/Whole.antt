@@ -1,33 +1,13 @@
 -- What is read is whole by the grammar.
-use Rattle.std.proofs.Common.{◌≡◌, ℕ, refl, ap, List}
+use Rattle.std.proofs.Common.{ℕ, ap, List}
 use Rattle.qs_lex.specs.declared.token.Token.{Token}
-use Rattle.qs_lex.specs.declared.token.Kind.{Kind}
-use Rattle.qs_lex.specs.declared.token.Kind.TheVariants.{Bare, Quoted, Variable, Node, Word as a_word, Opening, Closing, Comma, Plus, Slash, Equals, Stop}
-use Rattle.qs_lex.specs.Spelling.{IsLabelText}
-use Rattle.qs_lex.specs.Tokens.{bytes_of, HasLabelText}
-use Rattle.qs_lex.specs.Grammar.{a_label, comma, plus, sort_of, IsOf, one, part, ◌·◌, repeated, IsWhole, whole_token, whole_part, whole_sequence, left_out, not_left_out, no_more, one_more}
+use Rattle.qs_lex.specs.Grammar.{comma, plus, sort_of, one, part, ◌·◌, repeated, IsWhole, whole_token, whole_part, whole_sequence, left_out, not_left_out, no_more, one_more}
 use Rattle.qs_tree.specs.Trees.{Forest, Tree}
+use Rattle.qs_reader.proofs.Tokens.{label_sort}
 use Rattle.qs_graphtext.specs.WrittenChains.{WrittenChain}
 use Rattle.qs_graphtext.specs.Grammar.{graph, chain, plain, line}
 use Rattle.qs_graphtext.specs.Reading.{ReadsPlain, reads_plain, ReadsSubtrees, no_parentheses, nothing_inside, plains_inside, ReadsPlains, reads_plains, ReadsMorePlains, no_more_plains, one_more_plain, ReadsRooted, reads_rooted, reads_trees, ReadsMoreTrees, no_more_trees, one_more_tree, ReadsChain, reads_chain, reads_chains, ReadsMoreChains, no_more_chains, one_more_chain, ReadsGraph, reads_graph}
-use Rattle.qs_graphtext.specs.working.Readers.{in_parentheses}
-
-pub label_sort : (text : List ℕ) (t : Token) (spelling : List ℕ) → HasLabelText text t spelling → IsOf a_label t
-label_sort text t spelling h = by_kind t.kind (bytes_of text t) h
-  where
-    by_kind : (kind : Kind) (bytes : List ℕ) → IsLabelText kind bytes spelling → sort_of kind ≡ a_label
-    by_kind Bare bytes g = refl
-    by_kind Quoted bytes g = refl
-    by_kind (Variable letter number) bytes g = absurd g
-    by_kind (Node number) bytes g = absurd g
-    by_kind (a_word w) bytes g = absurd g
-    by_kind Opening bytes g = absurd g
-    by_kind Closing bytes g = absurd g
-    by_kind Comma bytes g = absurd g
-    by_kind Plus bytes g = absurd g
-    by_kind Slash bytes g = absurd g
-    by_kind Equals bytes g = absurd g
-    by_kind Stop bytes g = absurd g
+use Rattle.qs_graphtext.specs.working.Readers.{plains_with, in_parentheses}
 
 mutual
   plain_whole : {names : List (List ℕ)} {text : List ℕ} {ts rest : List Token} {t : Tree} → ReadsPlain names text ts t rest → IsWhole line (part plain) ts rest
@@ -38,8 +18,7 @@ mutual
   subtrees_whole (nothing_inside o c) = not_left_out (whole_sequence (whole_token o) (whole_sequence left_out (whole_token c)))
   subtrees_whole (plains_inside o p c) = not_left_out (whole_sequence (whole_token o) (whole_sequence (not_left_out (plains_whole p)) (whole_token c)))
 
-  plains_whole : {names : List (List ℕ)} {text : List ℕ} {ts rest : List Token} {f : Forest} → ReadsPlains names text ts f rest
-      → IsWhole line (part plain · repeated (one comma · part plain)) ts rest
+  plains_whole : {names : List (List ℕ)} {text : List ℕ} {ts rest : List Token} {f : Forest} → ReadsPlains names text ts f rest → IsWhole line (plains_with comma) ts rest
   plains_whole (reads_plains p m) = whole_sequence (plain_whole p) (more_plains_whole m)
 
   more_plains_whole : {names : List (List ℕ)} {text : List ℕ} {ts rest : List Token} {f : Forest} → ReadsMorePlains names text ts f rest
@@ -57,7 +36,7 @@ more_trees_whole (one_more_tree p r m) = one_more (whole_sequence (whole_token p
 
 chain_whole : {names : List (List ℕ)} {text : List ℕ} {ts rest : List Token} {c : WrittenChain} → ReadsChain names text ts c rest → IsWhole line (part chain) ts rest
 chain_whole (reads_chain f (reads_trees r m) g s) =
-    whole_part (whole_sequence (whole_token (ap sort_of f)) (whole_sequence (rooted_whole r) (whole_sequence (more_trees_whole m) (whole_sequence (whole_token (ap sort_of g)) (whole_token s)))))
+    whole_part (whole_sequence (whole_token (ap sort_of f)) (whole_sequence (whole_sequence (rooted_whole r) (more_trees_whole m)) (whole_sequence (whole_token (ap sort_of g)) (whole_token s))))
 
 more_chains_whole : {names : List (List ℕ)} {text : List ℕ} {ts rest : List Token} {chains : List WrittenChain} → ReadsMoreChains names text ts chains rest
     → IsWhole line (repeated (part chain)) ts rest
@@ -66,4 +45,4 @@ more_chains_whole (one_more_chain r m) = one_more (chain_whole r) (more_chains_w
 
 pub graph_whole : {names : List (List ℕ)} {text : List ℕ} {ts rest : List Token} {chains : List WrittenChain} → ReadsGraph names text ts chains rest → IsWhole line (part graph) ts rest
 graph_whole (reads_graph g (reads_chains r m) f) =
-    whole_part (whole_sequence (whole_token g) (whole_sequence (chain_whole r) (whole_sequence (more_chains_whole m) (whole_token f))))
+    whole_part (whole_sequence (whole_token g) (whole_sequence (whole_sequence (chain_whole r) (more_chains_whole m)) (whole_token f)))

@@ -9,7 +9,8 @@ use Rattle.qs_lex.specs.declared.token.Word.TheVariants.{Graphe, Fin}
 use Rattle.qs_lex.specs.Grammar.{Sort, a_label, a_node_mark, the_word, opening, closing, comma, plus, stop, sort_of, part, IsWhole}
 use Rattle.qs_lex.proofs.Meanings.{IsOne, is_one, AreMany, none_left, one_behind, Means, whole_means}
 use Rattle.qs_tree.specs.Trees.{Forest, no_tree, first_tree, Tree}
-use Rattle.qs_ruletext.proofs.KnownTokens.{IsKnown, is_variable, variable_is}
+use Rattle.qs_ruletext.specs.working.Readers.{is_variable}
+use Rattle.qs_ruletext.proofs.KnownTokens.{IsKnown, variable_is}
 use Rattle.qs_graphtext.specs.WrittenChains.{WrittenChain}
 use Rattle.qs_graphtext.specs.Grammar.{Part, graph, chain, plain, line}
 use Rattle.qs_graphtext.specs.Reading.{ReadsPlain, reads_plain, ReadsSubtrees, no_parentheses, nothing_inside, plains_inside, reads_plains, ReadsMorePlains, no_more_plains, one_more_plain, ReadsRooted, reads_rooted, ReadsMoreTrees, no_more_trees, one_more_tree, ReadsTrees, reads_trees, ReadsChain, reads_chain, ReadsMoreChains, no_more_chains, one_more_chain, ReadsChains, reads_chains, ReadsGraph, reads_graph}
@@ -110,8 +111,8 @@ module _ (names : List (List ℕ)) (text : List ℕ) where
 
   lines : (p : Part) (ts rest : List Token) → All (IsKnown names text) ts → IsWhole line (part p) ts rest → Meaning p ts rest → Meant p ts rest
   lines graph ts rest all w m =
-      let c = m.2.1 in let q = chains_of m.2.2.1 in graph_of m.1 (c.0 ∷ q.0, reads_chains c.1 q.1) m.2.2.2
-  lines chain ts rest all w m = chain_of m.1 (all_trees m.2.1 (trees_of m.2.2.1)) m.2.2.2.1 m.2.2.2.2
+      let c = m.2.1.1 in let q = chains_of m.2.1.2 in graph_of m.1 (c.0 ∷ q.0, reads_chains c.1 q.1) m.2.2
+  lines chain ts rest all w m = chain_of m.1 (all_trees m.2.1.1 (trees_of m.2.1.2)) m.2.2.1 m.2.2.2
   lines plain ts rest all w m = plain_of m.1 (subtrees_of m.2)
 
   -- a whole graph of known tokens is read

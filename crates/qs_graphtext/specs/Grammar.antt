@@ -13,7 +13,7 @@ pub data Part : Type 0 where
 -- chain = mark plain { "+" plain } mark "."
 -- plain = label [ "(" [ plain { "," plain } ] ")" ]
 abbrev pub line : Grammar Part
-line graph = one (the_word Graphe) · part chain · repeated (part chain) · one (the_word Fin)
-line chain = one a_node_mark · part plain · repeated (one plus · part plain) · one a_node_mark · one stop
+line graph = one (the_word Graphe) · (part chain · repeated (part chain)) · one (the_word Fin)
+line chain = one a_node_mark · (part plain · repeated (one plus · part plain)) · one a_node_mark · one stop
 line plain =
     one a_label · optional (one opening · optional (part plain · repeated (one comma · part plain)) · one closing)

@@ -9,7 +9,7 @@ use Rattle.qs_tree.specs.declared.cell.Label.{Label}
 use Rattle.qs_tree.specs.Lists.{◌∈◌}
 use Rattle.qs_tree.specs.Text.{IsNamed}
 use Rattle.qs_tree.specs.Trees.{Forest, no_tree, first_tree, Tree}
-use Rattle.qs_ruletext.specs.Reading.{IsLabelOf}
+use Rattle.qs_reader.specs.Names.{IsLabelOf}
 use Rattle.qs_graphtext.specs.WrittenChains.{WrittenChain}
 
 mutual

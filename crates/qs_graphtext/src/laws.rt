@@ -5,7 +5,7 @@ ghost use Rattle.qs_lex.specs.declared.token.Token.{Token};
 ghost use Rattle.std.specs.List.{All};
 ghost use Rattle.qs_lex.specs.Tokens.{IsTokenOf};
 ghost use Rattle.qs_lex.specs.Grammar.{part, IsWhole};
-ghost use Rattle.qs_ruletext.specs.Names.{NamesGrow};
+ghost use Rattle.qs_reader.specs.Names.{NamesGrow};
 ghost use Rattle.qs_tree.specs.Names.{AreDistinct};
 ghost use Rattle.qs_graphtext.specs.WrittenChains.{WrittenChain};
 ghost use Rattle.qs_graphtext.specs.Grammar.{graph, line};

@@ -1,152 +1,122 @@
 //! Chains and graphs, read from tokens.
 
-ghost use Rattle.std.specs.Prelude.{◌≡◌, ℕ, ◌^◌, ◌+◌, ◌<◌, ◌≤◌, List, [], ◌∷◌, length, drop, IsTrue, IsFalse};
+ghost use Rattle.std.specs.Prelude.{◌≡◌, ℕ, ◌^◌, ◌+◌, ◌<◌, ◌≤◌, List, length, drop, IsTrue, IsFalse};
 ghost use Rattle.std.specs.Prelude.{IfOk, IfErr, IsErr};
 ghost use Rattle.qs_lex.specs.declared.token.Token.{Token};
 ghost use Rattle.qs_lex.specs.Tokens.{AreTokensOf};
 ghost use Rattle.qs_lex.specs.Nesting.{IsTooDeep};
-ghost use Rattle.qs_lex.specs.Grammar.{a_node_mark, opening, plus, part, repeated, IsWhole};
+ghost use Rattle.qs_lex.specs.Grammar.{a_node_mark, plus, part, IsWhole};
 ghost use Rattle.qs_lex.specs.Expecting.{same_sort, NextIsNo};
-ghost use Rattle.qs_ruletext.specs.Rules.{KeepsNames, between};
-ghost use Rattle.qs_ruletext.specs.Names.{NamesGrow};
+ghost use Rattle.qs_reader.specs.Names.{KeepsNames, NamesGrow};
+ghost use Rattle.qs_reader.specs.Readers.{rest_of, between, IsAt, EndsHere};
 ghost use Rattle.qs_graphtext.specs.Grammar.{chain, graph, line};
-ghost use Rattle.qs_graphtext.specs.Reading.{ReadsTrees, ReadsChain, ReadsChains, ReadsGraph, AreNamed};
+ghost use Rattle.qs_graphtext.specs.Reading.{ReadsGraph, AreNamed};
 ghost use Rattle.qs_graphtext.specs.Refusals.{CannotGoOn, EndsFrom};
-ghost use Rattle.qs_graphtext.specs.working.Readers.{Readable, IsRead, Ends, IsNextMark, NextIsMark, plains_with};
+ghost use Rattle.qs_graphtext.specs.working.Readers.{IsRead, Ends, PassesMark, plains_with, some_chains};
+ghost use Rattle.qs_graphtext.specs.working.Readers.{Trees, AChain, Chains, AGraph};
 
 use crate::chain::Chain;
 use crate::plain::rooted;
 use qs_lex::{Kind, Token, Word};
-use qs_ruletext::TextEnd;
-use qs_ruletext::cursor::{Halt, behind, expect};
+use qs_reader::{Reader, TextEnd};
 use qs_tree::{Names, Tree};
 use std::alloc::Global;
 
-/// The number of the next token, which has to be a node mark, and what stands behind it.
-fn mark<'t>(tokens: &'t [Token]) -> Result<(u32, &'t [Token]), Halt>
-    ensures next { IfOk result (λ found. IsNextMark tokens.now found.0 found.1.now) }
-    ensures halt { IfErr result (λ halt. halt ≡ Halt.Syntax (length tokens.now)) }
-    ensures none { IfErr result (λ _. NextIsNo (same_sort a_node_mark) tokens.now) }
+/// The number of the next token, which has to be a node mark. It passes it.
+fn mark(reader: &mut Reader<'_>) -> Result<u32, TextEnd>
+    ensures passes { IfOk result (λ number. PassesMark number reader.old reader.new) }
+    ensures ends { IfErr result (EndsHere a_node_mark reader.old) }
 {
-    match tokens {
-        [
-            Token {
-                kind: Kind::Node(number),
-                ..
-            },
-            rest @ ..,
-        ] => Ok((*number, rest)),
-        _ => Err(Halt::Syntax { left: tokens.len() }),
-    }
+    let next = reader.next_token()?;
+    let Kind::Node(number) = next.kind else {
+        return Err(reader.fault());
+    };
+    reader.take();
+    Ok(number)
 }
 
 /// Whether the next token is a node mark.
-fn is_at_mark(tokens: &[Token]) -> bool
-    ensures yes { IsTrue result → NextIsMark tokens.now }
-    ensures no { IsFalse result → NextIsNo (same_sort a_node_mark) tokens.now }
+fn is_at_mark(reader: &Reader<'_>) -> bool
+    ensures yes { IsTrue result → IsAt a_node_mark reader.now }
+    ensures no { IsFalse result → NextIsNo (same_sort a_node_mark) (rest_of reader.now) }
 {
-    mark(tokens).is_ok()
+    match reader.peek() {
+        Some(next) => matches!(next.kind, Kind::Node(_)),
+        None => false,
+    }
 }
 
 /// Trees with a `+` between two, and the bytes at which they begin.
-fn trees<'t>(
-    alloc: Global,
-    text: &str,
-    tokens: &'t [Token],
-    names: &mut Names,
-) -> Result<(Vec<Tree>, Vec<u32>, &'t [Token]), Halt>
-    requires of_text { Readable text.now tokens.now }
-    requires room { length names.old + length tokens.now < 2 ^ 32 }
+fn trees(reader: &mut Reader<'_>, names: &mut Names) -> Result<(Vec<Tree>, Vec<u32>), TextEnd>
+    requires room { length names.old + length (rest_of reader.old) < 2 ^ 32 }
     ensures keeps { KeepsNames names.old names.new }
-    ensures read { IfOk result (λ found. IsRead (plains_with plus) (plus ∷ opening ∷ [])
-        (λ later. ReadsTrees later text.now tokens.now found.0.items found.1.items found.2.now) text.now tokens.now
-        found.2.now names.old names.new) }
-    ensures ends { IfErr result (Ends (plains_with plus) (plus ∷ opening ∷ []) tokens.now) }
+    ensures read { IfOk result (λ found. IsRead (plains_with plus) (Trees found.0.items found.1.items)
+        reader.old reader.new names.old names.new) }
+    ensures ends { IfErr result (Ends (plains_with plus) reader.old) }
 {
-    let (first, byte, mut rest) = rooted(alloc, text, tokens, names)?;
-    let mut trees = vec![in alloc; first]?;
-    let mut at = vec![in alloc; byte]?;
-    while let Some(after) = behind(rest, Kind::Plus) {
-        let (tree, byte, end) = rooted(alloc, text, after, names)?;
-        trees.push(tree)?;
+    let (first, byte) = rooted(reader, names)?;
+    let mut trees = vec![in reader.alloc(); first]?;
+    let mut at = vec![in reader.alloc(); byte]?;
+    while reader.pass(Kind::Plus) {
+        let (next, byte) = rooted(reader, names)?;
+        trees.push(next)?;
         at.push(byte)?;
-        rest = end;
     }
-    Ok((trees, at, rest))
+    Ok((trees, at))
 }
 
 /// A chain.
-fn chain<'t>(
-    alloc: Global,
-    text: &str,
-    tokens: &'t [Token],
-    names: &mut Names,
-) -> Result<(Chain, &'t [Token]), Halt>
-    requires of_text { Readable text.now tokens.now }
-    requires room { length names.old + length tokens.now < 2 ^ 32 }
+fn chain(reader: &mut Reader<'_>, names: &mut Names) -> Result<Chain, TextEnd>
+    requires room { length names.old + length (rest_of reader.old) < 2 ^ 32 }
     ensures keeps { KeepsNames names.old names.new }
-    ensures read { IfOk result (λ found. IsRead (part chain ∷ []) [] (λ later.
-        ReadsChain later text.now tokens.now found.0 found.1.now) text.now tokens.now found.1.now names.old names.new) }
-    ensures some { IfOk result (λ found. length found.1.now < length tokens.now) }
-    ensures ends { IfErr result (Ends (part chain ∷ []) [] tokens.now) }
+    ensures read { IfOk result
+        (λ found. IsRead (part chain) (AChain found) reader.old reader.new names.old names.new) }
+    ensures shorter { IfOk result (λ _. length (rest_of reader.new) < length (rest_of reader.old)) }
+    ensures ends { IfErr result (Ends (part chain) reader.old) }
 {
-    let (from, inside) = mark(tokens)?;
-    let (trees, at, end) = trees(alloc, text, inside, names)?;
-    let (to, last) = mark(end)?;
-    let rest = expect(last, Kind::Stop)?;
+    let from = mark(reader)?;
+    let (trees, at) = trees(reader, names)?;
+    let to = mark(reader)?;
+    reader.expect(Kind::Stop)?;
     let chain = Chain {
         from,
         trees,
         to,
         at,
     };
-    Ok((chain, rest))
+    Ok(chain)
 }
 
 /// Chains, one behind the other.
-fn chains<'t>(
-    alloc: Global,
-    text: &str,
-    tokens: &'t [Token],
-    names: &mut Names,
-) -> Result<(Vec<Chain>, &'t [Token]), Halt>
-    requires of_text { Readable text.now tokens.now }
-    requires room { length names.old + length tokens.now < 2 ^ 32 }
+fn chains(reader: &mut Reader<'_>, names: &mut Names) -> Result<Vec<Chain>, TextEnd>
+    requires room { length names.old + length (rest_of reader.old) < 2 ^ 32 }
     ensures keeps { KeepsNames names.old names.new }
-    ensures read { IfOk result (λ found. IsRead (part chain ∷ repeated (part chain) ∷ []) (a_node_mark ∷ [])
-        (λ later. ReadsChains later text.now tokens.now found.0.items found.1.now) text.now tokens.now found.1.now
-        names.old names.new) }
-    ensures ends { IfErr result (Ends (part chain ∷ repeated (part chain) ∷ []) (a_node_mark ∷ []) tokens.now) }
+    ensures read { IfOk result
+        (λ found. IsRead some_chains (Chains found.items) reader.old reader.new names.old names.new) }
+    ensures ends { IfErr result (Ends some_chains reader.old) }
 {
-    let (first, mut rest) = chain(alloc, text, tokens, names)?;
-    let mut chains = vec![in alloc; first]?;
-    while is_at_mark(rest) {
-        let (next, end) = chain(alloc, text, rest, names)?;
+    let first = chain(reader, names)?;
+    let mut chains = vec![in reader.alloc(); first]?;
+    while is_at_mark(reader) {
+        let next = chain(reader, names)?;
         chains.push(next)?;
-        rest = end;
     }
-    Ok((chains, rest))
+    Ok(chains)
 }
 
 /// A graph.
-fn graph<'t>(
-    alloc: Global,
-    text: &str,
-    tokens: &'t [Token],
-    names: &mut Names,
-) -> Result<(Vec<Chain>, &'t [Token]), Halt>
-    requires of_text { Readable text.now tokens.now }
-    requires room { length names.old + length tokens.now < 2 ^ 32 }
+fn graph(reader: &mut Reader<'_>, names: &mut Names) -> Result<Vec<Chain>, TextEnd>
+    requires room { length names.old + length (rest_of reader.old) < 2 ^ 32 }
     ensures keeps { KeepsNames names.old names.new }
-    ensures read { IfOk result (λ found. IsRead (part graph ∷ []) [] (λ later. ReadsGraph later text.now tokens.now
-        found.0.items found.1.now) text.now tokens.now found.1.now names.old names.new) }
-    ensures some { IfOk result (λ found. length found.1.now < length tokens.now) }
-    ensures ends { IfErr result (Ends (part graph ∷ []) [] tokens.now) }
+    ensures read { IfOk result
+        (λ found. IsRead (part graph) (AGraph found.items) reader.old reader.new names.old names.new) }
+    ensures shorter { IfOk result (λ _. length (rest_of reader.new) < length (rest_of reader.old)) }
+    ensures ends { IfErr result (Ends (part graph) reader.old) }
 {
-    let inside = expect(tokens, Kind::Word(Word::Graphe))?;
-    let (chains, end) = chains(alloc, text, inside, names)?;
-    let rest = expect(end, Kind::Word(Word::Fin))?;
-    Ok((chains, rest))
+    reader.expect(Kind::Word(Word::Graphe))?;
+    let chains = chains(reader, names)?;
+    reader.expect(Kind::Word(Word::Fin))?;
+    Ok(chains)
 }
 
 /// Reads a graph, from `-GRAPHE-` to `-FIN-`, that begins at the place `from` of the list of tokens. The tokens are
@@ -168,8 +138,9 @@ pub fn read_chains(
     requires within { from ≤ length tokens.now }
     requires room { length names.old + length tokens.now < 2 ^ 32 }
 
-    ensures read { IfOk result
-        (λ found. ReadsGraph names.new text.now (drop from tokens.now) found.0.items (drop found.1 tokens.now)) }
+    // In these names, and in all that keep them.
+    ensures read { IfOk result (λ found. (later : _) → KeepsNames names.new later
+        → ReadsGraph later text.now (drop from tokens.now) found.0.items (drop found.1 tokens.now)) }
     ensures behind { IfOk result (λ found. (from < found.1) × (found.1 ≤ length tokens.now)) }
     ensures ends { IfErr result (EndsFrom tokens.now from) }
 
@@ -184,9 +155,7 @@ pub fn read_chains(
     ensures few { IfOk result (λ found. length names.new + from ≤ length names.old + found.1) }
     ensures named { IfOk result (λ found. AreNamed (length names.new) found.0.items) }
 {
-    match graph(alloc, text, &tokens[from..], names) {
-        Ok((chains, rest)) => Ok((chains, tokens.len() - rest.len())),
-        Err(Halt::Syntax { left }) => Err(TextEnd::Syntax(tokens.len() - left)),
-        Err(Halt::Memory) => Err(TextEnd::Memory),
-    }
+    let mut reader = Reader::new(alloc, text, tokens, from);
+    let chains = graph(&mut reader, names)?;
+    Ok((chains, reader.place()))
 }

@@ -9,10 +9,10 @@ use Rattle.qs_lex.specs.working.Expecting.{goes_on, IsPredictive, BeginAll, NotW
 use Rattle.qs_lex.proofs.Expected.{whole_begins}
 use Rattle.qs_lex.proofs.Predictive.{IsPredicted}
 use Rattle.qs_lex.proofs.Stopping.{front_of}
-use Rattle.qs_reader.specs.Names.{NamesGrow}
+use Rattle.qs_reader.specs.Names.{KeepsNames, NamesGrow}
 use Rattle.qs_reader.specs.working.Names.{NamesGrowUpTo}
-use Rattle.qs_reader.specs.Readers.{Reading, rest_of, between}
-use Rattle.qs_reader.specs.working.Readers.{StopsAt, CannotGoOn}
+use Rattle.qs_reader.specs.Readers.{Reading, rest_of, between, CannotGoOn}
+use Rattle.qs_reader.specs.working.Readers.{Reads, IsRead, StopsAt}
 use Rattle.qs_reader.proofs.Taking.{stops}
 
 pub drop_twice : (ts : List Token) (m n k : ℕ) → k ≡ m + n → drop n (drop m ts) ≡ drop k ts
@@ -104,3 +104,34 @@ cannot_go_on {line} table more ok f good closed {r} {at} s =
       not_whole = not_whole f (between r.tokens r.place at) (drop at r.tokens) stop (drop at r.tokens) refl;
       no_further = λ t there b. let n = at_next r.tokens at t there in further f (between r.tokens r.place at) (drop at r.tokens) stop [] t n.0 n.1 (inl b);
     }
+
+-- what was read from one place among the tokens up to another
+module _ {Part : Type 0} {line : Grammar Part} {table : Part → Sort → Bool} {f : Form Part} {R : Reads} {text : List ℕ} {tokens : List Token} {from at : ℕ} {r s : Reading} {old new : List (List ℕ)}
+    (starts : r ≡ record { text = text; tokens = tokens; place = from }) (place : at ≡ s.place) (read : IsRead line table f R r s old new) where
+  abbrev here : IsRead line table f R (record { text = text; tokens = tokens; place = from }) s old new
+  here = subst (λ r. IsRead line table f R r s old new) starts read
+
+  behind : rest_of s ≡ drop at tokens
+  behind = ap (drop s.place) here.goes_on.tokens ∙ ap (λ k. drop k tokens) (sym place)
+
+  pub within : at ≤ length tokens
+  within = subst (λ k. k ≤ length tokens) (sym place) (subst (λ ts. s.place ≤ length ts) here.goes_on.tokens here.goes_on.within)
+
+  pub reads_up_to : (later : List (List ℕ)) → KeepsNames new later → R later text (drop from tokens) (drop at tokens)
+  reads_up_to later keeps = subst (λ us. R later text (drop from tokens) us) behind (here.reads later keeps)
+
+  pub names_between : NamesGrow text (between tokens from at) old new
+  names_between =
+      names_up_to text tokens from at old new (subst (λ k. from ≤ k) (sym place) here.goes_on.forward) within (subst (λ us. NamesGrowUpTo text (drop from tokens) us old new) behind here.names)
+
+-- what was read of all tokens
+module _ {Part : Type 0} {line : Grammar Part} {table : Part → Sort → Bool} {f : Form Part} {R : Reads} {text : List ℕ} {tokens : List Token} {r s : Reading} {old new : List (List ℕ)}
+    (starts : r ≡ record { text = text; tokens = tokens; place = 0 }) (ended : rest_of s ≡ []) (read : IsRead line table f R r s old new) where
+  abbrev whole : IsRead line table f R (record { text = text; tokens = tokens; place = 0 }) s old new
+  whole = subst (λ r. IsRead line table f R r s old new) starts read
+
+  pub reads_all : R new text tokens []
+  reads_all = subst (λ us. R new text tokens us) ended (whole.reads new (λ k t i. i))
+
+  pub names_all : NamesGrow text tokens old new
+  names_all = let g = whole.names in subst (λ us. NamesGrow text us old new) (sym (g.1 ∙ ap (λ us. g.0 ++ us) ended ∙ append-nil g.0)) g.2

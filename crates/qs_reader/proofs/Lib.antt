@@ -4,3 +4,4 @@ pub mod Taking
 pub mod Steps
 pub mod Lists
 pub mod Between
+pub mod Known

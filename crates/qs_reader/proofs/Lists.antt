@@ -1,5 +1,5 @@
 -- What holds between two turns of a loop that reads what may be repeated.
-use Rattle.std.proofs.Common.{◌≡◌, ℕ, ◌≤◌, Bool, true, refl, sym, subst, List, ◌∷◌, length, arith}
+use Rattle.std.proofs.Common.{◌≡◌, ℕ, ◌≤◌, Bool, true, refl, sym, ◌∙◌, ap, subst, List, ◌∷◌, length, arith}
 use Rattle.qs_lex.specs.declared.token.Token.{Token}
 use Rattle.qs_lex.specs.Grammar.{Sort, sort_of, Form, one, ◌·◌, repeated, Grammar}
 use Rattle.qs_lex.specs.Expecting.{NextIsNo}
@@ -7,7 +7,7 @@ use Rattle.qs_lex.specs.working.Expecting.{first}
 use Rattle.qs_lex.proofs.Expected.{same_itself}
 use Rattle.qs_reader.specs.declared.text_end.TextEnd.{TextEnd}
 use Rattle.qs_reader.specs.working.Names.{NamesGrowUpTo}
-use Rattle.qs_reader.specs.Readers.{Reading, rest_of, IsNext, Passes, Stays}
+use Rattle.qs_reader.specs.Readers.{Reading, rest_of, IsAt, Passes, Stays}
 use Rattle.qs_reader.specs.working.Readers.{takes_token, takes_sequence, takes_no_more, takes_more, StopsIn, stops_in_behind, stops_in_more, stops_later, Reads, IsRead, IsReadSoFar, Ends}
 use Rattle.qs_reader.proofs.Naming.{no_names, names_on}
 use Rattle.qs_reader.proofs.Steps.{on_and_on, ends_from}
@@ -91,6 +91,6 @@ module _ {Part : Type 0} {line : Grammar Part} {table : Part → Sort → Bool} 
   stops_next : {m : Form Part} {t : Token} {ts us rest : List Token} → ts ≡ t ∷ us → first table m (sort_of t.kind) ≡ true → StopsIn line table m ts rest → StopsIn line table (repeated m) ts rest
   stops_next {m} {rest} are begins s = subst (λ vs. StopsIn line table (repeated m) vs rest) (sym are) (stops_in_more begins (subst (λ vs. StopsIn line table m vs rest) are s))
 
-  pub member_ends : {f m : Form Part} {S : Reads} {t : Token} {r s : Reading} {old new : List (List ℕ)} {end : TextEnd}
-      → IsReadSoFar line table f m S r s old new → IsNext t s → first table m (sort_of t.kind) ≡ true → Ends line table m s end → Ends line table f r end
-  member_ends a n begins e = ends_from a.goes_on (λ rest t. a.stops rest (stops_next n.are begins t)) e
+  pub member_ends : {f m : Form Part} {sort : Sort} {S : Reads} {r s : Reading} {old new : List (List ℕ)} {end : TextEnd}
+      → IsReadSoFar line table f m S r s old new → IsAt sort s → first table m sort ≡ true → Ends line table m s end → Ends line table f r end
+  member_ends {m} a n begins e = ends_from a.goes_on (λ rest t. a.stops rest (stops_next n.next.are (ap (first table m) n.of_sort ∙ begins) t)) e

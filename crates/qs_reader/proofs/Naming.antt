@@ -1,7 +1,6 @@
 -- How the names grow, token by token, and that they grow in one way.
-use Rattle.std.proofs.Common.{◌≡◌, ℕ, zero, suc, ◌+◌, ◌-◌, ◌≤◌, ◌⊎◌, inl, inr, ⊎_elim, true, false, refl, sym, ◌∙◌, ap, subst, List, [], ◌∷◌, ◌++◌, length, take, drop, arith, Some, slice_get, Contains, Result, Ok, Err, append_assoc, length-append, length-drop}
+use Rattle.std.proofs.Common.{◌≡◌, ℕ, zero, suc, ◌⊎◌, inl, inr, ⊎_elim, true, false, refl, sym, ◌∙◌, ap, subst, List, [], ◌∷◌, ◌++◌, length, arith, Some, slice_get, Contains, Result, Ok, Err, append_assoc, length-append}
 use Rattle.std.specs.Prelude.{IfOk, OnOk}
-use Rattle.std.proofs.Math.Seq.{take-append_seam}
 use Rattle.qs_lex.specs.declared.token.Token.{Token}
 use Rattle.qs_lex.specs.declared.token.Kind.{Kind}
 use Rattle.qs_lex.specs.declared.token.Kind.TheVariants.{Bare, Quoted, Variable, Node, Word as a_word, Opening, Closing, Comma, Plus, Slash, Equals, Stop}
@@ -13,7 +12,6 @@ use Rattle.qs_lex.proofs.Quotes.{one_label_text}
 use Rattle.qs_tree.specs.declared.cell.Label.{Label}
 use Rattle.qs_tree.specs.Names.{AreDistinct}
 use Rattle.qs_tree.proofs.NamesLemmas.{Contains-slice_get}
-use Rattle.qs_reader.specs.Readers.{between}
 use Rattle.qs_reader.specs.Names.{AddsName, AddsNameOf, NamesGrow}
 use Rattle.qs_reader.specs.working.Names.{NamesGrowUpTo}
 
@@ -68,15 +66,6 @@ pub adds_name_of : {E : Type 0} (text : List ℕ) (t : Token) (spelling : List �
     → IfOk r (λ _. AddsNameOf text t old new)
 adds_name_of text t spelling old new (Ok label) is named known grows = inr (spelling, is, adds_name old new spelling label.0 named known grows)
 adds_name_of text t spelling old new (Err e) is named known grows = tt
-
--- from one place up to another
-pub names_between : (text : List ℕ) (tokens rest : List Token) (from : ℕ) (old new : List (List ℕ)) → from ≤ length tokens
-    → NamesGrowUpTo text (drop from tokens) rest old new → NamesGrow text (between tokens from (length tokens - length rest)) old new
-names_between text tokens rest from old new within g =
-    let long : length (drop from tokens) ≡ length g.0 + length rest = ap length g.1 ∙ length-append g.0 rest in
-    let many : (length tokens - length rest) - from ≡ length g.0 = omega (arith, long, length-drop from tokens, within) in
-    let passed : between tokens from (length tokens - length rest) ≡ g.0 = ap (λ k. take k (drop from tokens)) many ∙ ap (take (length g.0)) g.1 ∙ take-append_seam g.0 rest in
-    subst (λ us. NamesGrow text us old new) (sym passed) g.2
 
 -- the names grow in one way
 one_addition : (old new other : List (List ℕ)) (label : List ℕ) → AddsName old label new → AddsName old label other → new ≡ other

@@ -26,8 +26,8 @@ passed_length p = ap length p.are ∙ omega arith
 pub stayed_length : {sort : Sort} {r s : Reading} → Stays sort r s → length (rest_of s) ≡ length (rest_of r)
 stayed_length st = ap (λ r. length (rest_of r)) st.same
 
--- a `?` that hands on why a reader ended
-pub hands_on : {T : Type 0} (r : Result T TextEnd) {end : TextEnd} (P : TextEnd → Type 0) → IsErrAnd r (λ e. e ≡ end) → P end → IfErr r P
+-- a `?` that hands on an end
+pub hands_on : {T E : Type 0} (r : Result T E) {end : E} (P : E → Type 0) → IsErrAnd r (λ e. e ≡ end) → P end → IfErr r P
 hands_on r P h x = let p = err_from_is_err_and r h in rw (p.1, p.2) x
 
 none_here : {Part : Type 0} (line : Grammar Part) (table : Part → Sort → Bool) (f : Form Part) (sort : Sort) (r : Reading) (end : TextEnd) → nullable f ≡ false

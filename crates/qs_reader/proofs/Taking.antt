@@ -8,9 +8,10 @@ use Rattle.qs_lex.specs.working.Expecting.{nullable, first, starts, may_end, IsP
 use Rattle.qs_lex.proofs.Expected.{Fronts, whole_front}
 use Rattle.qs_lex.proofs.Going.{leads_on, leads_token, leads_part, leads_sequence, leads_this, leads_other, leads_without, leads_with, leads_done, stops_here, stops_behind}
 use Rattle.qs_lex.proofs.Predictive.{IsPredicted, Refused, next_apart, refused_first, refused_last, refused_this, refused_other, refused_member, refused_again, refused_part, leads_into, leads_round}
-use Rattle.qs_reader.specs.working.Readers.{IsTaken, takes_token, takes_part, takes_sequence, takes_this, takes_other, leaves_out, takes_member, takes_no_more, takes_more, StopsIn, stops_known, none_fits, stops_in_part, stops_in_first, stops_in_behind, stops_in_this, stops_in_other, stops_in_member, stops_before, stops_in_more, stops_later}
+use Rattle.qs_reader.specs.working.Readers.{IsTaken, takes_known, takes_token, takes_part, takes_sequence, takes_this, takes_other, leaves_out, takes_member, takes_no_more, takes_more, StopsIn, stops_known, none_fits, stops_in_part, stops_in_first, stops_in_behind, stops_in_this, stops_in_other, stops_in_member, stops_before, stops_in_more, stops_later}
 
 pub taken_whole : {Part : Type 0} {line : Grammar Part} {table : Part → Sort → Bool} {f : Form Part} {ts rest : List Token} → IsTaken line table f ts rest → IsWhole line f ts rest
+taken_whole (takes_known w l) = w
 taken_whole (takes_token e) = whole_token e
 taken_whole (takes_part w) = whole_part (taken_whole w)
 taken_whole (takes_sequence w v) = whole_sequence (taken_whole w) (taken_whole v)
@@ -40,6 +41,7 @@ module _ {Part : Type 0} {line : Grammar Part} (table more : Part → Sort → B
 
   pub taken_leads : {f : Form Part} {ts rest : List Token} (behind : List (Form Part)) → IsPredictive table more f → Refused table more f behind
       → IsTaken line table f ts rest → Leads line (f ∷ behind) ts behind rest
+  taken_leads behind good refused (takes_known w l) = l behind
   taken_leads behind good refused (takes_token {sort} {t} {rest} e) = leads_token line sort behind t rest e
   taken_leads behind good refused (takes_part {name} {ts} w) =
       leads_on (leads_part line name behind ts) (taken_leads behind (ok.predictive name) (refused_part table more ok name behind refused) w)

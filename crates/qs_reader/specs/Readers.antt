@@ -1,10 +1,10 @@
--- What a step of a reader means, whatever the grammar.
-use Rattle.std.specs.Prelude.{◌≡◌, ℕ, ◌+◌, ◌-◌, ◌<◌, ◌≤◌, List, [], ◌∷◌, length, take, drop}
+-- What a step of a reader means, whatever the grammar, and where a form of a grammar can't go on.
+use Rattle.std.specs.Prelude.{◌≡◌, ℕ, ◌+◌, ◌-◌, ◌<◌, ◌≤◌, List, [], ◌∷◌, ◌++◌, length, take, drop, Some, slice_get}
 use Rattle.qs_lex.specs.declared.token.Token.{Token}
 use Rattle.qs_lex.specs.declared.token.Kind.{Kind}
 use Rattle.qs_lex.specs.declared.token.Kind.TheVariants.{Bare, Quoted, Variable, Node}
 use Rattle.qs_lex.specs.Tokens.{IsTokenOf}
-use Rattle.qs_lex.specs.Grammar.{Sort, IsOf}
+use Rattle.qs_lex.specs.Grammar.{Sort, IsOf, Form, Grammar, IsWhole, Begins}
 use Rattle.qs_lex.specs.Expecting.{same_sort, NextIsNo}
 use Rattle.qs_tree.specs.declared.cell.Label.{Label}
 use Rattle.qs_reader.specs.declared.text_end.TextEnd.{TextEnd}
@@ -43,6 +43,12 @@ pub record IsNext (t : Token) (r : Reading) : Type 0 where
   pub some : r.place < length r.tokens
   pub of_text : IsTokenOf r.text t
 
+-- the next token is of this sort
+pub record IsAt (sort : Sort) (r : Reading) : Type 0 where
+  pub token : Token
+  pub next : IsNext token r
+  pub of_sort : IsOf sort token
+
 -- this token was passed
 pub record IsPassed (t : Token) (r s : Reading) : Type 0 where
   pub are : rest_of r ≡ t ∷ rest_of s
@@ -80,3 +86,13 @@ pub record EndsHere (sort : Sort) (r : Reading) (end : TextEnd) : Type 0 where
 -- the tokens from one place up to another
 abbrev pub between : List Token → ℕ → ℕ → List Token
 between tokens from to = take (to - from) (drop from tokens)
+
+-- The tokens from `from` on, before `at`, begin the form and aren't it whole, and with the token at `at`, where there
+-- is one, they don't begin it.
+pub record CannotGoOn {Part : Type 0} (line : Grammar Part) (form : Form Part)
+    (tokens : List Token) (from at : ℕ) : Type 0 where
+  pub forward : from ≤ at
+  pub within : at ≤ length tokens
+  pub begins : Begins line form (between tokens from at)
+  pub not_whole : IsWhole line form (between tokens from at) [] → ⊥
+  pub no_further : (t : Token) → slice_get tokens at ≡ Some t → Begins line form (between tokens from at ++ t ∷ []) → ⊥

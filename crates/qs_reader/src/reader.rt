@@ -4,10 +4,11 @@ ghost use Rattle.std.specs.Prelude.{◌≡◌, ◌^◌, ◌+◌, ◌<◌, ◌≤
 ghost use Rattle.std.specs.Prelude.{IsFalse};
 ghost use Rattle.qs_lex.specs.declared.token.Token.{Token};
 ghost use Rattle.qs_lex.specs.Tokens.{AreTokensOf};
-ghost use Rattle.qs_lex.specs.Grammar.{a_label, sort_of};
+ghost use Rattle.qs_lex.specs.Grammar.{Sort, a_label, sort_of};
+ghost use Rattle.qs_lex.specs.Expecting.{same_sort, NextIsNo};
 ghost use Rattle.qs_reader.specs.Names.{KeepsNames};
 ghost use Rattle.qs_reader.specs.Readers.{rest_of, IsSign, IsNext, IsPassed, Passes, Stays, NamesLabel, EndsHere};
-ghost use Rattle.qs_reader.specs.Readers.{between};
+ghost use Rattle.qs_reader.specs.Readers.{between, IsAt};
 
 use crate::labels::label_of;
 use crate::text_end::TextEnd;
@@ -106,6 +107,17 @@ impl<'a> Reader<'a> {
         Some(*next)
     }
 
+    /// The next token, which there has to be.
+    pub fn next_token(&self) -> Result<Token, TextEnd>
+        ensures next { IfOk result (λ token. IsNext token self.now) }
+        ensures ends { IfErr result (λ end. (sort : Sort) → EndsHere sort self.now end) }
+    {
+        match self.peek() {
+            Some(next) => Ok(next),
+            None => Err(self.fault()),
+        }
+    }
+
     /// Passes the next token, which there is.
     pub fn take(&mut self)
         requires { self.old.place < length self.old.tokens }
@@ -122,19 +134,30 @@ impl<'a> Reader<'a> {
         self.place = place;
     }
 
+    /// Whether the next token is of this kind, a word or a sign.
+    pub fn is_at(&self, kind: Kind) -> bool
+        requires { IsSign kind }
+        ensures yes { IsTrue result → IsAt (sort_of kind) self.now }
+        ensures no { IsFalse result → NextIsNo (same_sort (sort_of kind)) (rest_of self.now) }
+        ensures within { self.now.place ≤ length self.now.tokens }
+    {
+        match self.peek() {
+            Some(next) => next.kind == kind,
+            None => false,
+        }
+    }
+
     /// Whether the next token is of this kind, a word or a sign. If so it passes it.
     pub fn pass(&mut self, kind: Kind) -> bool
         requires { IsSign kind }
         ensures yes { IsTrue result → Passes (sort_of kind) self.old self.new }
         ensures no { IsFalse result → Stays (sort_of kind) self.old self.new }
     {
-        match self.peek() {
-            Some(next) if next.kind == kind => {
-                self.take();
-                true
-            }
-            _ => false,
+        if !self.is_at(kind) {
+            return false;
         }
+        self.take();
+        true
     }
 
     /// Passes the next token, which has to be of this kind, a word or a sign.

@@ -15,8 +15,7 @@ use Rattle.qs_reader.specs.working.Readers.{Reads, AToken, a_token, Nothing, not
 use Rattle.qs_reader.proofs.Steps.{token_read, left_out_read, then_read, read_so, this_read, other_read, member_read, part_read, stayed_read, stayed_here, stayed_ends, ends_here, token_ends, part_ends, first_ends, then_ends, this_ends, other_ends, next_is_no}
 use Rattle.qs_ruletext.specs.Grammar.{list, cond, neg, prim}
 use Rattle.qs_ruletext.specs.Reading.{any_of, all_of, comparing_word, ReadsCond, reads_cond, ReadsMoreConjs, no_more_conjs, one_more_conj, ReadsConj, reads_conj, ReadsMoreNegs, no_more_negs, one_more_neg, ReadsNeg, not_negated, reads_negated, ReadsPrim, reads_group, reads_compared}
-use Rattle.qs_ruletext.specs.Readers.{begins_item}
-use Rattle.qs_ruletext.specs.working.Readers.{IsRead, Ends, a_comparison, ACond, AConj, AList, ANeg, APrim}
+use Rattle.qs_ruletext.specs.working.Readers.{IsRead, Ends, a_comparison, ACond, AConj, AList, ANeg, APrim, begins_item}
 
 -- two lists, compared
 compares : {word : Comparing} {a b : Patterns} (names : List (List ℕ)) (text : List ℕ) (ts rest : List Token) → Then (AList a) (Then (AToken (the_word (comparing_word word))) (AList b)) names text ts rest → ReadsPrim names text ts (compared word a b) rest

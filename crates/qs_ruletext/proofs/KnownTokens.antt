@@ -19,12 +19,9 @@ use Rattle.qs_tree.proofs.Decisions.{decide_number, decide_list, decide_member}
 use Rattle.qs_tree.proofs.Members.{in_at}
 use Rattle.qs_tree.proofs.NamesLemmas.{Contains-slice_get}
 use Rattle.qs_pattern.specs.declared.variable.Var.{Var}
-use Rattle.qs_ruletext.specs.Reading.{IsLabelOf, IsVariableOf}
-use Rattle.qs_ruletext.specs.Rules.{KeepsNames}
-use Rattle.qs_ruletext.specs.Names.{AddsName, AddsNameOf, NamesGrow}
-use Rattle.qs_ruletext.specs.working.Cursors.{Readable}
-pub use Rattle.qs_ruletext.specs.Readers.{IsGood}
-pub use Rattle.qs_ruletext.specs.working.Readers.{is_variable}
+use Rattle.qs_ruletext.specs.Reading.{IsVariableOf}
+use Rattle.qs_reader.specs.Names.{IsLabelOf, KeepsNames, AddsName, AddsNameOf, NamesGrow}
+use Rattle.qs_ruletext.specs.working.Readers.{IsGood, is_variable}
 use Rattle.qs_ruletext.proofs.SideSteps.{spelled_good}
 
 -- in these names the token has a number where it is a label, and it is a variable where its sort says so
@@ -112,20 +109,14 @@ label_of names text t old new (inl a) keeps e = absurd (a.0 (label_is t.kind e))
 label_of names text t old new (inr a) keeps e =
     let p = added_place old new a.0 a.2 in (record { 0 = p.0 }, record { spelling = a.0; of_token = a.1; named = keeps p.0 a.0 p.1 })
 
--- tokens of a text can be read
-pub all_readable : (text : List ℕ) (ts : List Token) → All (IsTokenOf text) ts → Readable text ts
-all_readable text [] all = tt
-all_readable text (t ∷ ts) all =
-    let of = All-head (IsTokenOf text) t ts all in
-    (of, spelled_good t.kind (bytes_of text t) (token_stands of).spelled, all_readable text ts (All-tail (IsTokenOf text) t ts all))
-
--- tokens by which names have grown are known
-pub all_known : (text : List ℕ) (ts : List Token) (old names : List (List ℕ)) → Readable text ts → NamesGrow text ts old names → All (IsKnown names text) ts
-all_known text [] old names r g = All-nil (IsKnown names text)
-all_known text (t ∷ ts) old names r g =
+-- tokens of a text by which names have grown are known
+pub all_known : (text : List ℕ) (ts : List Token) (old names : List (List ℕ)) → All (IsTokenOf text) ts → NamesGrow text ts old names → All (IsKnown names text) ts
+all_known text [] old names all g = All-nil (IsKnown names text)
+all_known text (t ∷ ts) old names all g =
+    let good = spelled_good t.kind (bytes_of text t) (token_stands (All-head (IsTokenOf text) t ts all)).spelled in
     All-cons (IsKnown names text) t ts
-    (record { label = label_of names text t old g.0 g.1 (grow_keeps text ts g.0 names g.2); variable = λ s is of. variable_of t s r.1 is of })
-    (all_known text ts g.0 names r.2 g.2)
+    (record { label = label_of names text t old g.0 g.1 (grow_keeps text ts g.0 names g.2); variable = λ s is of. variable_of t s good is of })
+    (all_known text ts g.0 names (All-tail (IsTokenOf text) t ts all) g.2)
 
 -- ---- there are such names
 
@@ -165,9 +156,9 @@ one_addition old label = by (decide_member (decide_list decide_number) label old
     by (no n) = (old ++ label ∷ [], inr (λ c. let p = place_of old label c in n (in_at old p.0 label p.1), refl))
 
 -- the names grow by all tokens of a text
-pub names_grow : (text : List ℕ) (ts : List Token) (old : List (List ℕ)) → Readable text ts → (new : List (List ℕ)) × NamesGrow text ts old new
-names_grow text [] old r = (old, refl)
-names_grow text (t ∷ ts) old r = by (text_of text t r.0) (λ next. names_grow text ts next r.2)
+pub names_grow : (text : List ℕ) (ts : List Token) (old : List (List ℕ)) → All (IsTokenOf text) ts → (new : List (List ℕ)) × NamesGrow text ts old new
+names_grow text [] old all = (old, refl)
+names_grow text (t ∷ ts) old all = by (text_of text t (All-head (IsTokenOf text) t ts all)) (λ next. names_grow text ts next (All-tail (IsTokenOf text) t ts all))
   where
     by : (IsLabel t → ⊥) ⊎ ((label : List ℕ) × HasLabelText text t label) → ((next : List (List ℕ)) → (new : List (List ℕ)) × NamesGrow text ts next new)
         → (new : List (List ℕ)) × NamesGrow text (t ∷ ts) old new

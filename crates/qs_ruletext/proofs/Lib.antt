@@ -1,6 +1,5 @@
 pub mod ComparingWords
 pub mod Tables
-pub mod Naming
 pub mod SideSteps
 pub mod Growing
 pub mod ConditionSteps
@@ -8,7 +7,6 @@ pub mod RuleSteps
 pub mod Whole
 pub mod FullLists
 pub mod Told
-pub mod RulesRead
 pub mod PatternTexts
 pub mod ConditionTexts
 pub mod OneReading
@@ -30,5 +28,4 @@ pub mod NamesInUtf8
 pub mod TextsInUtf8
 pub mod KnownTokens
 pub mod WholeRead
-pub mod Between
 pub mod RulesEnd

@@ -15,8 +15,8 @@ use Rattle.qs_lex.specs.Spelling.{doubled, between_quotes, IsLabelText}
 use Rattle.qs_lex.specs.Tokens.{bytes_of, IsTokenOf, HasLabelText}
 use Rattle.qs_lex.proofs.Choices.{first_behind}
 use Rattle.qs_lex.proofs.Readings.{token_placed}
-use Rattle.qs_ruletext.specs.Names.{AddsName, AddsNameOf, NamesGrow}
-use Rattle.qs_ruletext.proofs.Naming.{place_of}
+use Rattle.qs_reader.specs.Names.{AddsName, AddsNameOf, NamesGrow}
+use Rattle.qs_reader.proofs.Naming.{place_of}
 
 -- each of these texts is UTF-8
 abbrev pub AreUtf8 : List (List ℕ) → Type 0

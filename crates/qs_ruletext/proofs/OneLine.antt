@@ -13,9 +13,9 @@ use Rattle.qs_lex.specs.Tokens.{bytes_of, StandsIn, IsTokenOf}
 use Rattle.qs_lex.proofs.Choices.{each_weaker}
 use Rattle.qs_lex.proofs.Quotes.{one_text}
 use Rattle.qs_lex.proofs.Readings.{token_stands}
-use Rattle.qs_ruletext.specs.Names.{AddsName, AddsNameOf, NamesGrow}
+use Rattle.qs_reader.specs.Names.{AddsName, AddsNameOf, NamesGrow}
 use Rattle.qs_ruletext.specs.Written.{AreOnOneLine}
-use Rattle.qs_ruletext.proofs.Naming.{place_of}
+use Rattle.qs_reader.proofs.Naming.{place_of}
 
 -- no byte of the text ends a line
 abbrev IsOnOneLine : List ℕ → Type 0

@@ -20,9 +20,9 @@ use Rattle.qs_pattern.specs.declared.pattern.Head.TheVariants as head
 use Rattle.qs_pattern.specs.Patterns.{Patterns, no_pattern, node_first, tree_var_first, forest_var_first}
 use Rattle.qs_pattern.specs.Conditions.{Condition, Conditions, compared, negated, condition_first}
 use Rattle.qs_ruletext.specs.Grammar.{Part, tree, list, line}
-use Rattle.qs_ruletext.specs.Reading.{comparing_word, IsLabelOf, IsVariableOf, IsHeadOf, joined, ReadsTree, reads_node, reads_tree_variable, ReadsSubtrees, no_parentheses, nothing_inside, list_inside, ReadsList, reads_list, ReadsMoreItems, no_more_items, one_more_item, ReadsItem, reads_tree, reads_forest_variable, ReadsMoreTrees, no_more_trees, one_more_tree, ReadsSide, reads_side, any_of, all_of, ReadsCond, reads_cond, ReadsMoreConjs, no_more_conjs, one_more_conj, ReadsConj, reads_conj, ReadsMoreNegs, no_more_negs, one_more_neg, ReadsNeg, not_negated, reads_negated, ReadsPrim, reads_group, reads_compared}
-use Rattle.qs_ruletext.specs.Readers.{begins_tree, begins_item}
-use Rattle.qs_ruletext.specs.working.Readers.{table}
+use Rattle.qs_reader.specs.Names.{IsLabelOf}
+use Rattle.qs_ruletext.specs.Reading.{comparing_word, IsVariableOf, IsHeadOf, joined, ReadsTree, reads_node, reads_tree_variable, ReadsSubtrees, no_parentheses, nothing_inside, list_inside, ReadsList, reads_list, ReadsMoreItems, no_more_items, one_more_item, ReadsItem, reads_tree, reads_forest_variable, ReadsMoreTrees, no_more_trees, one_more_tree, ReadsSide, reads_side, any_of, all_of, ReadsCond, reads_cond, ReadsMoreConjs, no_more_conjs, one_more_conj, ReadsConj, reads_conj, ReadsMoreNegs, no_more_negs, one_more_neg, ReadsNeg, not_negated, reads_negated, ReadsPrim, reads_group, reads_compared}
+use Rattle.qs_ruletext.specs.working.Readers.{table, begins_tree, begins_item}
 use Rattle.qs_ruletext.proofs.ComparingWords.{none_compares, one_comparing}
 use Rattle.qs_ruletext.proofs.Tables.{ok}
 use Rattle.qs_reader.proofs.Tokens.{label_sort}

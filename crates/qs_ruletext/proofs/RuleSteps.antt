@@ -14,15 +14,14 @@ use Rattle.qs_reader.specs.Names.{KeepsNames, NamesGrow}
 use Rattle.qs_reader.specs.working.Names.{NamesGrowUpTo}
 use Rattle.qs_reader.specs.Readers.{Reading, rest_of, Passes, Stays, EndsHere, between}
 use Rattle.qs_reader.specs.working.Readers.{Reads, AToken, a_token, Nothing, nothing, Then, then, StopsOr}
-use Rattle.qs_reader.specs.working.Readers as begun
+use Rattle.qs_reader.specs.Readers as begun
 use Rattle.qs_reader.proofs.Steps.{token_read, left_out_read, then_read, read_so, read_at, member_read, part_read, token_ends, part_ends, first_ends, then_ends, member_ends}
 use Rattle.qs_reader.proofs.Lists.{none_read}
 use Rattle.qs_reader.proofs.Between.{between_drop, next_at, at_next, names_up_to, cannot_go_on}
 use Rattle.qs_ruletext.specs.WrittenRules.{WrittenRule}
 use Rattle.qs_ruletext.specs.Grammar.{rule, side, cond, line}
 use Rattle.qs_ruletext.specs.Rules.{cell_bytes, ReadsCondIfGiven, no_cond, some_cond, ReadsRule, reads_rule, ReadsWrittenRule, ReadsRules, NoRuleAt, EndsFrom}
-use Rattle.qs_ruletext.specs.Readers.{begins_tree}
-use Rattle.qs_ruletext.specs.working.Readers.{table, IsTreeSort, BeginsTree, IsRead, IsReadSoFar, Ends, condition_if_any, ACond, ACondIfGiven, ASide, AWrittenRule}
+use Rattle.qs_ruletext.specs.working.Readers.{table, IsTreeSort, BeginsTree, IsRead, IsReadSoFar, Ends, condition_if_any, ACond, ACondIfGiven, ASide, AWrittenRule, begins_tree}
 use Rattle.qs_ruletext.proofs.Tables.{more, all_ok}
 use Rattle.qs_ruletext.proofs.Whole.{rules_whole}
 
@@ -102,7 +101,7 @@ pub rules_next : {raw : WrittenRule} (rules longer : List WrittenRule) → longe
 rules_next {raw} rules longer e names text ts us rest before r raws end m =
     subst (λ x. ReadsRules names text ts x end) (sym (ap (λ x. x ++ raws) e ∙ append_assoc rules (raw ∷ []) raws)) (before (raw ∷ raws) end (rest, r, m))
 
-tree_begins_rule : (t : Token) → IsTreeSort (sort_of t.kind) → Begins line (part rule) (t ∷ [])
+pub tree_begins_rule : (t : Token) → IsTreeSort (sort_of t.kind) → Begins line (part rule) (t ∷ [])
 tree_begins_rule t of_sort =
     begins_part (begins_first (begins_part (begins_first (begins_part
     (⊎_elim (λ a. begins_this (begins_first (begins_this (begins_token a))))

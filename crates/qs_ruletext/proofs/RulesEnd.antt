@@ -6,10 +6,11 @@ use Rattle.qs_lex.proofs.OneEnd.{IsStuck, not_stuck}
 use Rattle.qs_reader.specs.declared.text_end.TextEnd.{TextEnd}
 use Rattle.qs_reader.specs.declared.text_end.TextEnd.TheVariants.{Syntax, Memory}
 use Rattle.qs_ruletext.specs.Grammar.{rule, line}
-use Rattle.qs_ruletext.specs.Rules.{between, CannotGoOn, NoRuleAt, EndsFrom}
+use Rattle.qs_reader.specs.Readers.{between}
+use Rattle.qs_ruletext.specs.Rules.{CannotGoOn, NoRuleAt, EndsFrom}
 use Rattle.qs_ruletext.specs.working.Readers.{table}
 use Rattle.qs_ruletext.proofs.Tables.{more, all_ok}
-use Rattle.qs_ruletext.proofs.Between.{next_at, between_drop, some_between}
+use Rattle.qs_reader.proofs.Between.{next_at, between_drop, some_between}
 use Rattle.qs_ruletext.proofs.OneRules.{no_rule_from}
 
 abbrev stuck : (tokens : List Token) (from at : ℕ) (c : CannotGoOn tokens from at) → IsStuck line (part rule) (drop c.begun tokens)

@@ -26,12 +26,10 @@ use Rattle.qs_reader.specs.declared.text_end.TextEnd.{TextEnd}
 use Rattle.qs_reader.specs.Readers.{Reading, rest_of, IsNext, Passes, Stays, NamesLabel, EndsHere}
 use Rattle.qs_reader.specs.working.Readers.{Reads, AToken, a_token, ALabel, a_label, Nothing, nothing, Then, then}
 use Rattle.qs_reader.proofs.Tokens.{passed, other_next}
-pub use Rattle.qs_reader.proofs.Tokens.{label_sort}
 use Rattle.qs_reader.proofs.Steps.{passed_read, token_read, label_read, left_out_read, absent_read, then_read, read_so, this_read, other_read, member_read, part_read, stayed_read, stayed_here, stayed_ends, ends_here, token_ends, part_ends, first_ends, then_ends, this_ends, member_ends, before_ends}
 use Rattle.qs_ruletext.specs.Reading.{ReadsTree, reads_node, reads_tree_variable, ReadsSubtrees, no_parentheses, nothing_inside, list_inside, reads_tree, reads_forest_variable}
 use Rattle.qs_ruletext.specs.Grammar.{tree, list, item}
-use Rattle.qs_ruletext.specs.Readers.{IsGood}
-use Rattle.qs_ruletext.specs.working.Readers.{IsRead, Ends, is_variable, sort_of_class, PassesVariable, a_head, in_parentheses, ReadsHead, reads_head, AList, ATree, AnItem, Subtrees}
+use Rattle.qs_ruletext.specs.working.Readers.{IsRead, Ends, is_variable, sort_of_class, PassesVariable, a_head, in_parentheses, ReadsHead, reads_head, AList, ATree, AnItem, Subtrees, IsGood}
 
 -- variables
 pub spelled_good : (kind : Kind) (bytes : List ℕ) → Spells kind bytes → IsGood kind

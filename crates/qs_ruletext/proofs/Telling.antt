@@ -60,7 +60,7 @@ pub rule_told : (r : UnmarkedRule) → IsRuleToldIn 2 r
 rule_told r = if_given_told r.condition
 
 -- a word that stands in a text is one of the text's version
-known_word : (v : ℕ) (w : Word) (k : Kind) → IsInVersion v k → sort_of k ≡ the_word w → since w ≤ v
+pub known_word : (v : ℕ) (w : Word) (k : Kind) → IsInVersion v k → sort_of k ≡ the_word w → since w ≤ v
 known_word v w (a_word u) known is = let same : u ≡ w = cc in subst (λ x. since x ≤ v) same known
 known_word v w Bare known is = absurd cc
 known_word v w Quoted known is = absurd cc

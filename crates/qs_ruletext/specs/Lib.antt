@@ -4,10 +4,7 @@ pub mod Grammar
 pub mod Reading
 pub mod WrittenRules
 pub mod Rules
-pub mod Names
 pub mod Endings
 pub mod Texts
 pub mod Written
-pub mod Cursors
-pub mod Readers
 pub mod working

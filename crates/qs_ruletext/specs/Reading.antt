@@ -7,7 +7,7 @@ use Rattle.qs_lex.specs.declared.token.Word.{Word}
 use Rattle.qs_lex.specs.declared.token.Word.TheVariants.{Dans, Hors, Egal, Et, Ou, Non}
 use Rattle.qs_lex.specs.Grammar.{Sort, a_label_variable, a_tree_variable, a_forest_variable, the_word, opening, closing}
 use Rattle.qs_lex.specs.Grammar.{comma, plus, IsOf}
-pub use Rattle.qs_reader.specs.Names.{IsLabelOf}
+use Rattle.qs_reader.specs.Names.{IsLabelOf}
 use Rattle.qs_pattern.specs.declared.variable.Var.{Var}
 use Rattle.qs_pattern.specs.declared.pattern.Head.{Head}
 use Rattle.qs_pattern.specs.declared.pattern.Head.TheVariants as head

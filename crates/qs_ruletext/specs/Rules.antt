@@ -8,8 +8,7 @@ use Rattle.qs_lex.specs.Grammar.{slash, equals, stop, IsOf, part, repeated, IsWh
 use Rattle.qs_pattern.specs.Patterns.{Patterns, count, AreInClass, NoForestAtTop}
 use Rattle.qs_pattern.specs.Conditions.{Condition, IsConditionInClass, HasEnoughMembers}
 use Rattle.qs_pattern.specs.Rules.{UnmarkedRule}
-pub use Rattle.qs_reader.specs.Names.{KeepsNames}
-pub use Rattle.qs_reader.specs.Readers.{between}
+use Rattle.qs_reader.specs.Readers.{between}
 use Rattle.qs_ruletext.specs.WrittenRules.{WrittenRule}
 use Rattle.qs_reader.specs.declared.text_end.TextEnd.{TextEnd}
 use Rattle.qs_reader.specs.declared.text_end.TextEnd.TheVariants.{Syntax, Memory}

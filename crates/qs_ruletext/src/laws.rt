@@ -11,7 +11,7 @@ ghost use Rattle.qs_ruletext.specs.WrittenRules.{WrittenRule};
 ghost use Rattle.qs_ruletext.specs.Grammar.{rule, line};
 ghost use Rattle.qs_ruletext.specs.Rules.{ReadsRule, ReadsWrittenRule, ReadsRules, IsWellRead, NoRuleAt};
 ghost use Rattle.qs_ruletext.specs.Endings.{NoRuleIn};
-ghost use Rattle.qs_ruletext.specs.Names.{NamesGrow};
+ghost use Rattle.qs_reader.specs.Names.{NamesGrow};
 ghost use Rattle.qs_ruletext.specs.Written.{AreOnOneLine, IsRuleToldIn, written};
 
 /// What is read is whole by the grammar.

@@ -14,14 +14,13 @@
 #![tactic(auto)]
 
 mod conditions;
-pub mod cursor;
 pub mod laws;
 mod raw;
 mod rules;
 mod sides;
 mod writing;
 
-pub use qs_reader::{TextEnd, label_of};
+pub use qs_reader::TextEnd;
 pub use raw::RawRule;
 pub use rules::read_rules;
 pub use std::alloc::AllocError as Memory;

@@ -8,7 +8,7 @@ ghost use Rattle.qs_pattern.specs.working.Patterns.{one_pattern};
 ghost use Rattle.qs_reader.specs.Names.{KeepsNames};
 ghost use Rattle.qs_reader.specs.Readers.{rest_of, IsNext, Stays};
 ghost use Rattle.qs_ruletext.specs.Grammar.{tree, list, item, side};
-ghost use Rattle.qs_ruletext.specs.Readers.{IsGood, begins_tree};
+ghost use Rattle.qs_ruletext.specs.working.Readers.{IsGood, begins_tree};
 ghost use Rattle.qs_ruletext.specs.working.Readers.{is_variable, sort_of_class, PassesVariable, IsTreeSort, BeginsTree};
 ghost use Rattle.qs_ruletext.specs.working.Readers.{a_head, in_parentheses, ReadsHead, IsRead, Ends, AList, ASide};
 ghost use Rattle.qs_ruletext.specs.working.Readers.{ATree, AnItem, Subtrees};

@@ -23,8 +23,8 @@ use Rattle.qsys.proofs.OptionLemmas.{IsNumberOption, option_read}
 
 abbrev rules : List Rule
 rules =
-    required_word (codes "command") ∷ number_option (codes "limit") 1 100000 (codes "10000")
-    ∷ number_option (codes "workers") 1 8 (codes "4") ∷ number_option (codes "size") 0 13 (codes "8") ∷ []
+    required_word (codes "command") ∷ number_option (codes "limit") 1 1000000 (codes "10000")
+    ∷ number_option (codes "workers") 1 32 (codes "4") ∷ number_option (codes "size") 0 13 (codes "8") ∷ []
 
 rules_are : (c : Command) → app_of c ≡ simple_command → map rule_of (args_of c) ≡ rules
 unfolding simple_command
@@ -173,11 +173,11 @@ module _ (c : Command) (is : app_of c ≡ simple_command) (m : ArgMatches) (p : 
   -- a parse gives each option a number in its range
   pub has_numbers : HasNumbers (found_of m)
   has_numbers = record {
-    limit = number_at 1 (codes "limit") 1 100000
-        (number_option_at c is 1 d (codes "limit") (codes "10000") 1 100000 (omega arith) refl only_limit (λ e. cc e) (own_name (codes "limit") 108 refl (λ e. omega arith) (λ e. omega arith)))
+    limit = number_at 1 (codes "limit") 1 1000000
+        (number_option_at c is 1 d (codes "limit") (codes "10000") 1 1000000 (omega arith) refl only_limit (λ e. cc e) (own_name (codes "limit") 108 refl (λ e. omega arith) (λ e. omega arith)))
         (ap (λ (r : Rule). r.id) (rule_at c is 1 d));
-    workers = number_at 2 (codes "workers") 1 8
-        (number_option_at c is 2 d (codes "workers") (codes "4") 1 8 (omega arith) refl only_workers (λ e. cc e) (own_name (codes "workers") 119 refl (λ e. omega arith) (λ e. omega arith)))
+    workers = number_at 2 (codes "workers") 1 32
+        (number_option_at c is 2 d (codes "workers") (codes "4") 1 32 (omega arith) refl only_workers (λ e. cc e) (own_name (codes "workers") 119 refl (λ e. omega arith) (λ e. omega arith)))
         (ap (λ (r : Rule). r.id) (rule_at c is 2 d));
     size = number_at 3 (codes "size") 0 13
         (number_option_at c is 3 d (codes "size") (codes "8") 0 13 (omega arith) refl only_size (λ e. cc e) (own_name (codes "size") 115 refl (λ e. omega arith) (λ e. omega arith)))

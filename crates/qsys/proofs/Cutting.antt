@@ -1,5 +1,6 @@
 -- What is asked of a cascade that is run in two pieces: that its second part can be written, and that decks have it.
 use Rattle.std.proofs.Common.{ℕ, List, ◌++◌, length, Option, Some, None}
+use Rattle.qs_lex.specs.Tokens.{version_of}
 use Rattle.qs_tree.specs.Lists.{◌∈◌}
 use Rattle.qs_tree.proofs.Members.{in_append_right}
 use Rattle.qs_pattern.specs.Conditions.{Condition}
@@ -14,7 +15,7 @@ use Rattle.qs_deck.proofs.WritableDecks.{names_of_deck, writable_deck}
 use Rattle.qs_deck.proofs.DecksAccepted.{deck_accepted}
 use Rattle.qsys.specs.Pieces.{CanBeCut}
 use Rattle.qsys.proofs.PassingRules.{HasFullListsIfGiven}
-use Rattle.qsys.proofs.PassingDecks.{HaveFull}
+use Rattle.qsys.proofs.PassingDecks.{IsPassedGrammar}
 
 -- a condition that compares no empty list, in class and with named labels, is as those that were read
 given_read : (n : ℕ) (o : Option Condition) → IsInClassIfGiven o → HasEnoughMembersIfGiven o → IsNamedIfGiven n o → HasFullListsIfGiven o → IsWellReadIfGiven n o
@@ -29,17 +30,19 @@ rule_read n rule ok named full = record {
   condition = given_read n rule.condition ok.condition ok.members named.condition full;
 }
 
--- so the second part can be written, where no condition in it compares an empty list and texts of version 1 tell its rules
-pub back_writable : {names : List (List ℕ)} {graph : QGraph} {front back : List Grammar} → CanBeCut names graph front back
-    → ((grammar : Grammar) → grammar ∈ back → HaveFull 1 grammar.rules) → (grammar : Grammar) → grammar ∈ back → IsWritableGrammar (length names) grammar
-back_writable {front = front} {back = back} can full grammar i =
+-- so the second part can be written, where no condition in it compares an empty list and texts of the version tell its rules and
+-- marks
+pub back_writable : {names : List (List ℕ)} {graph : QGraph} {front back : List Grammar} (version : ℕ) → CanBeCut names graph front back
+    → ((grammar : Grammar) → grammar ∈ back → IsPassedGrammar version grammar) → (grammar : Grammar) → grammar ∈ back → IsWritableGrammar version (length names) grammar
+back_writable {front = front} {back = back} version can passed grammar i =
     let j = in_append_right front back grammar i in
     let named = can.named grammar j in
     record {
       name = named.0;
-      rules = λ rule k. rule_read _ rule (can.accepted grammar j rule k) (named.1 rule k) (full grammar i rule k).0;
-      without_mark = can.without_marks grammar i;
-      told = λ rule k. (full grammar i rule k).1;
+      rules = λ rule k. rule_read _ rule (can.accepted grammar j rule k) (named.1 rule k) ((passed grammar i).full rule k).0;
+      marked = can.marked_alike grammar i;
+      told = λ rule k. ((passed grammar i).full rule k).1;
+      mark_told = (passed grammar i).mark_told;
     }
 
 -- a condition that was read has named labels
@@ -48,11 +51,11 @@ given_named n None known = tt
 given_named n (Some c) known = known.named
 
 -- the names, the grammars and the graph of a deck
-pub cut_deck : {text : List ℕ} {names : List (List ℕ)} {graph : QGraph} {front back : List Grammar} → IsDeckOf text names (front ++ back) graph → CanBeCut names graph front back
-cut_deck {names = names} {front = front} {back = back} deck =
+pub cut_deck : {text : List ℕ} {version : ℕ} {names : List (List ℕ)} {graph : QGraph} {front back : List Grammar} → IsDeckOf text version names (front ++ back) graph → CanBeCut names graph front back
+cut_deck {text} {names = names} {front = front} {back = back} deck =
     let known = names_of_deck deck in
     let can = writable_deck deck in
-    let each : (grammar : Grammar) → grammar ∈ (front ++ back) → IsWritableGrammar (length names) grammar = can.1 in
+    let each : (grammar : Grammar) → grammar ∈ (front ++ back) → IsWritableGrammar (version_of text) (length names) grammar = can.1 in
     record {
       names_differ = known.1;
       accepted = deck_accepted deck;
@@ -62,7 +65,7 @@ cut_deck {names = names} {front = front} {back = back} deck =
             let read = (each grammar i).rules rule j in
             record { left = read.left.named; right = read.right.named; condition = given_named (length names) rule.condition read.condition },
       );
-      without_marks = λ grammar i. (each grammar (in_append_right front back grammar i)).without_mark;
+      marked_alike = λ grammar i. (each grammar (in_append_right front back grammar i)).marked;
       valid = can.2;
       arcs_named = can.4;
     }

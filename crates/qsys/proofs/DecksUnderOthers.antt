@@ -1,5 +1,5 @@
 -- A deck that is read under some names is read under others that hold the same texts, with other numbers for its labels.
-use Rattle.std.proofs.Common.{◌≡◌, ℕ, refl, ap, List, [], ◌∷◌, map, arith}
+use Rattle.std.proofs.Common.{◌≡◌, ℕ, Bool, refl, ap, List, [], ◌∷◌, map, arith}
 use Rattle.std.proofs.lemmas.List.{length-map}
 use Rattle.qs_lex.specs.declared.token.Token.{Token}
 use Rattle.qs_pattern.specs.Rules.{Rule}
@@ -17,21 +17,21 @@ abbrev pub renamed_written : (ℕ → ℕ) → WrittenRule → WrittenRule
 renamed_written g written = record { rule = renamed_unmarked g written.rule; at = written.at }
 
 abbrev pub renamed_system : (ℕ → ℕ) → WrittenSystem → WrittenSystem
-renamed_system g system = record { at = system.at; name = renamed_label g system.name; rules = map (renamed_written g) system.rules }
+renamed_system g system = record { at = system.at; name = renamed_label g system.name; unique = system.unique; rules = map (renamed_written g) system.rules }
 
 abbrev pub renamed_deck : (ℕ → ℕ) → WrittenDeck → WrittenDeck
 renamed_deck g deck = record { systems = map (renamed_system g) deck.systems; graph_at = deck.graph_at; chains = map (renamed_chain g) deck.chains }
 
 module _ (g : ℕ → ℕ) where
-  rules_renamed : (rules : List WrittenRule) → map rule_of (map (renamed_written g) rules) ≡ map (renamed_rule g) (map rule_of rules)
-  rules_renamed [] = refl
-  rules_renamed (r ∷ rules) = ap (λ (rs : List Rule). renamed_rule g (rule_of r) ∷ rs) (rules_renamed rules)
+  rules_renamed : (unique : Bool) (rules : List WrittenRule) → map (rule_of unique) (map (renamed_written g) rules) ≡ map (renamed_rule g) (map (rule_of unique) rules)
+  rules_renamed unique [] = refl
+  rules_renamed unique (r ∷ rules) = ap (λ (rs : List Rule). renamed_rule g (rule_of unique r) ∷ rs) (rules_renamed unique rules)
 
   -- what it means has its labels written so
   pub meanings_renamed : (systems : List WrittenSystem) → map meaning_of (map (renamed_system g) systems) ≡ map (renamed_grammar g) (map meaning_of systems)
   meanings_renamed [] = refl
   meanings_renamed (s ∷ systems) =
-      let here = ap (λ (rules : List Rule). record { name = renamed_label g s.name; rules = rules }) (rules_renamed s.rules) in
+      let here = ap (λ (rules : List Rule). record { name = renamed_label g s.name; unique = s.unique; rules = rules }) (rules_renamed s.unique s.rules) in
       let behind = meanings_renamed systems in
       λ i. here i ∷ behind i
 
@@ -45,8 +45,8 @@ module _ (g : ℕ → ℕ) (others names : List (List ℕ)) (carries : Carries g
   )
 
   system_under : {ts rest : List Token} {system : WrittenSystem} → ReadsSystem others text ts system rest → ReadsSystem names text ts (renamed_system g system) rest
-  system_under (reads_system {ts} {rest} {system = s} word at label dot rules) =
-      reads_system word at (label_under g others names carries text label) dot (rules_under s.rules ts rest rules)
+  system_under (reads_system {ts} {rest} {system = s} word at label mark dot rules) =
+      reads_system word at (label_under g others names carries text label) mark dot (rules_under s.rules ts rest rules)
 
   systems_under : (systems : List WrittenSystem) (ts rest : List Token) → ReadsSystems others text ts systems rest → ReadsSystems names text ts (map (renamed_system g) systems) rest
   systems_under [] ts rest e = e

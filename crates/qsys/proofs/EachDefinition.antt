@@ -31,23 +31,23 @@ use Rattle.qsys.proofs.GoingOn.{some_outcome}
 
 -- a text means a deck or is refused
 abbrev pub SomeAnswer : Type 0
-SomeAnswer = (text : List ℕ) → ((names : List (List ℕ)) × (grammars : List Grammar) × (G : QGraph) × IsDeckOf text names grammars G) ⊎ ((r : Refusal) × IsRefusalOf text r)
+SomeAnswer = (text : List ℕ) → ((version : ℕ) × (names : List (List ℕ)) × (grammars : List Grammar) × (G : QGraph) × IsDeckOf text version names grammars G) ⊎ ((r : Refusal) × IsRefusalOf text r)
 
 -- what is done with a deck that was read
 
-some_done : (which : Command) → Reads which → (L : ℕ) (bytes : List ℕ) (names : List (List ℕ)) (grammars : List Grammar) (graph : QGraph) → IsDeckOf bytes names grammars graph
-    → (text : List ℕ) × (status : Status) × IsDone which L names grammars graph text status
-some_done command.Run reads L bytes names grammars graph deck =
+some_done : (which : Command) → Reads which → (L : ℕ) (bytes : List ℕ) (version : ℕ) (names : List (List ℕ)) (grammars : List Grammar) (graph : QGraph) → IsDeckOf bytes version names grammars graph
+    → (text : List ℕ) × (status : Status) × IsDone which L version names grammars graph text status
+some_done command.Run reads L bytes version names grammars graph deck =
     let o = some_outcome L names graph grammars (deck_accepted deck) deck.valid in (o.0, status_of o.1, record { ending = o.1; outcome = o.2; status_is = refl })
-some_done command.Check reads L bytes names grammars graph deck = (deck_text names grammars graph, Done, record { text_is = refl; status_is = refl })
-some_done command.Graph reads L bytes names grammars graph deck = (graph_text names graph, Done, record { text_is = refl; status_is = refl })
-some_done command.Made reads L bytes names grammars graph deck = absurd reads
+some_done command.Check reads L bytes version names grammars graph deck = (deck_text version names grammars graph, Done, record { text_is = refl; status_is = refl })
+some_done command.Graph reads L bytes version names grammars graph deck = (graph_text names graph, Done, record { text_is = refl; status_is = refl })
+some_done command.Made reads L bytes version names grammars graph deck = absurd reads
 
 some_read : SomeAnswer → (job : Job) → Reads job.command → (bytes : List ℕ) → (text : List ℕ) × (status : Status) × IsDefined job bytes text status
 some_read some job reads bytes =
     ⊎_elim
-    (λ d. let done = some_done job.command reads job.limit bytes d.0 d.1 d.2 d.3 in
-    (done.0, done.1, of_deck (record { names = d.0; grammars = d.1; graph = d.2; deck = d.3; done = done.2 })))
+    (λ d. let done = some_done job.command reads job.limit bytes d.0 d.1 d.2 d.3 d.4 in
+    (done.0, done.1, of_deck (record { version = d.0; names = d.1; grammars = d.2; graph = d.3; deck = d.4; done = done.2 })))
     (λ r. (refusal_line r.0, Refused, of_refused reads (record { refusal = r.0; refused = r.1; text_is = refl; status_is = refl })))
     (some bytes)
 

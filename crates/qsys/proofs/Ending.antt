@@ -18,21 +18,22 @@ use Rattle.qsys.specs.Defined.{IsDefined, of_refused, of_deck, IsDone, Reads, st
 use Rattle.qsys.specs.working.Cascading.{Delivers, DeliversCascade, IsAnswered, IsWritten}
 
 -- the blocks of the cascade of a deck are what is defined for its text
-pub cascade_defined : (job : Job) (bytes : List ℕ) (names : List (List ℕ)) (grammars : List Grammar) (graph : QGraph) (old new : Option (List ℕ)) (answer : Status)
-    → job.command ≡ command.Run → IsDeckOf bytes names grammars graph → DeliversCascade job.limit names graph grammars old new answer
+pub cascade_defined : (job : Job) (bytes : List ℕ) (version : ℕ) (names : List (List ℕ)) (grammars : List Grammar) (graph : QGraph) (old new : Option (List ℕ)) (answer : Status)
+    → job.command ≡ command.Run → IsDeckOf bytes version names grammars graph → DeliversCascade job.limit names graph grammars old new answer
     → IsAnswered job bytes old new answer
-cascade_defined job bytes names grammars graph old new answer run deck d =
+cascade_defined job bytes version names grammars graph old new answer run deck d =
     inr (record {
       text = d.text;
       status = status_of d.ending;
       defined =
           of_deck (record {
+            version = version;
             names = names;
             grammars = grammars;
             graph = graph;
             deck = deck;
             done =
-                subst (λ (which : Command). IsDone which job.limit names grammars graph d.text (status_of d.ending)) (sym run)
+                subst (λ (which : Command). IsDone which job.limit version names grammars graph d.text (status_of d.ending)) (sym run)
                 (record { ending = d.ending; outcome = d.outcome; status_is = refl });
           });
       delivered = d.delivered;
@@ -43,28 +44,30 @@ pub refused_defined : (job : Job) (bytes : List ℕ) (refusal : Refusal) → Rea
 refused_defined job bytes refusal reads is = of_refused reads (record { refusal = refusal; refused = is; text_is = refl; status_is = refl })
 
 -- a deck that is checked, and its graph
-pub check_defined : (job : Job) (bytes : List ℕ) (names : List (List ℕ)) (grammars : List Grammar) (graph : QGraph) → job.command ≡ command.Check → IsDeckOf bytes names grammars graph
-    → IsDefined job bytes (deck_text names grammars graph) Done
-check_defined job bytes names grammars graph check deck =
+pub check_defined : (job : Job) (bytes : List ℕ) (version : ℕ) (names : List (List ℕ)) (grammars : List Grammar) (graph : QGraph) → job.command ≡ command.Check → IsDeckOf bytes version names grammars graph
+    → IsDefined job bytes (deck_text version names grammars graph) Done
+check_defined job bytes version names grammars graph check deck =
     of_deck (record {
+      version = version;
       names = names;
       grammars = grammars;
       graph = graph;
       deck = deck;
       done =
-          subst (λ (which : Command). IsDone which job.limit names grammars graph (deck_text names grammars graph) Done) (sym check)
+          subst (λ (which : Command). IsDone which job.limit version names grammars graph (deck_text version names grammars graph) Done) (sym check)
           (record { text_is = refl; status_is = refl });
     })
 
-pub graph_defined : (job : Job) (bytes : List ℕ) (names : List (List ℕ)) (grammars : List Grammar) (graph : QGraph) → job.command ≡ command.Graph → IsDeckOf bytes names grammars graph
+pub graph_defined : (job : Job) (bytes : List ℕ) (version : ℕ) (names : List (List ℕ)) (grammars : List Grammar) (graph : QGraph) → job.command ≡ command.Graph → IsDeckOf bytes version names grammars graph
     → IsDefined job bytes (graph_text names graph) Done
-graph_defined job bytes names grammars graph drawn deck =
+graph_defined job bytes version names grammars graph drawn deck =
     of_deck (record {
+      version = version;
       names = names;
       grammars = grammars;
       graph = graph;
       deck = deck;
-      done = subst (λ (which : Command). IsDone which job.limit names grammars graph (graph_text names graph) Done) (sym drawn) (record { text_is = refl; status_is = refl });
+      done = subst (λ (which : Command). IsDone which job.limit version names grammars graph (graph_text names graph) Done) (sym drawn) (record { text_is = refl; status_is = refl });
     })
 
 -- a text that is defined and was written

@@ -216,7 +216,7 @@ module _ (L : ℕ) (names : List (List ℕ)) where
           }
 
   -- there is room for one grammar less
-  pub goes_on_with : (G H : QGraph) (firings n : ℕ) (rules : List Rule) → L ≤ 100000 → CanGoOn names G (suc n) → ((rule : Rule) → rule ∈ rules → IsAccepted rule)
+  pub goes_on_with : (G H : QGraph) (firings n : ℕ) (rules : List Rule) → L ≤ 1000000 → CanGoOn names G (suc n) → ((rule : Rule) → rule ∈ rules → IsAccepted rule)
       → LeavesGraph rules G L firings H → 0 < length H.arcs → GrowsWithin G L (end.Left H firings) → IsEndNamed (length names) (end.Left H firings) → CanGoOn names H n
   goes_on_with G H firings n rules few can accepted leaves some grows named = record {
     valid = left_valid G H firings rules accepted can.valid leaves some;
@@ -321,7 +321,7 @@ module _ (L : ℕ) (names : List (List ℕ)) (systems : List System) (start : QG
           let line : text ≡ block L names system.name (a_graph firings left) = same ∙ ap (λ (f : StageEnd). block L names system.name (left_of f)) known in
           come_further L names start (map grammar_of systems) old mid now (grammar_of system) others come_to left firings left_is.0 left_is.1 new (written ∙ ap (append_known mid) line)
 
-      pub turn_can_go_on : L ≤ 100000 → AreSystemsNamed (length names) systems → GrowsWithin now L e → MakesNoLabels rules now e
+      pub turn_can_go_on : L ≤ 1000000 → AreSystemsNamed (length names) systems → GrowsWithin now L e → MakesNoLabels rules now e
           → CanGoOn names left (length (drop (i + 1) systems))
       turn_can_go_on few named grows labels =
           goes_on_with L names now left firings (length (drop (i + 1) systems)) system.rules.items few can_with (accepted_from (grammar_of system) (inl refl)) left_is.0 left_is.1

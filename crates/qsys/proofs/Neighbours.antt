@@ -1,11 +1,11 @@
 -- Which tokens stand side by side where rules, graphs and decks are read: before a word that compares two lists a list ends,
 -- and behind it one begins.
-use Rattle.std.proofs.Common.{◌≡◌, ℕ, Bool, true, false, cond, refl, sym, ap, ◌∙◌, subst, List, [], ◌∷◌, Option}
+use Rattle.std.proofs.Common.{◌≡◌, ℕ, Bool, true, false, cond, refl, sym, ap, ◌∙◌, subst, List, [], ◌∷◌, ◌++◌, Option}
 use Rattle.std.proofs.lemmas.Bool.{cond-true, cond-false}
 use Rattle.qs_lex.specs.declared.token.Token.{Token}
 use Rattle.qs_lex.specs.declared.token.Kind.{Kind}
 use Rattle.qs_lex.specs.declared.token.Kind.TheVariants.{Bare, Quoted, Node}
-use Rattle.qs_lex.specs.declared.token.Word.TheVariants.{Systeme, Graphe, Fin, Dans, Hors, Egal, Et, Ou, Non}
+use Rattle.qs_lex.specs.declared.token.Word.TheVariants.{Systeme, Graphe, Fin, Dans, Hors, Egal, Et, Ou, Non, Version, Unique}
 use Rattle.qs_lex.specs.Spelling.{IsLabelText}
 use Rattle.qs_lex.specs.Tokens.{bytes_of}
 use Rattle.qs_lex.specs.Grammar.{Sort, a_label, a_label_variable, a_tree_variable, a_forest_variable, a_node_mark, the_word, opening, closing, comma, plus, slash, equals, stop, sort_of, IsOf}
@@ -17,13 +17,15 @@ use Rattle.qs_pattern.specs.Patterns.{Patterns}
 use Rattle.qs_pattern.specs.Conditions.{Comparing, within, outside, same, Condition, Conditions}
 use Rattle.qs_pattern.specs.Rules.{UnmarkedRule}
 use Rattle.qs_ruletext.specs.WrittenRules.{WrittenRule}
-use Rattle.qs_ruletext.specs.Reading.{IsLabelOf, IsHeadOf, ReadsTree, reads_node, reads_tree_variable, ReadsSubtrees, no_parentheses, nothing_inside, list_inside, ReadsList, reads_list, ReadsMoreItems, no_more_items, one_more_item, ReadsItem, reads_tree, reads_forest_variable, ReadsMoreTrees, no_more_trees, one_more_tree, ReadsSide, reads_side, ReadsCond, reads_cond, ReadsMoreConjs, no_more_conjs, one_more_conj, ReadsConj, reads_conj, ReadsMoreNegs, no_more_negs, one_more_neg, ReadsNeg, not_negated, reads_negated, ReadsPrim, reads_group, reads_compared, comparing_word}
+use Rattle.qs_reader.specs.Names.{IsLabelOf}
+use Rattle.qs_ruletext.specs.Reading.{IsHeadOf, ReadsTree, reads_node, reads_tree_variable, ReadsSubtrees, no_parentheses, nothing_inside, list_inside, ReadsList, reads_list, ReadsMoreItems, no_more_items, one_more_item, ReadsItem, reads_tree, reads_forest_variable, ReadsMoreTrees, no_more_trees, one_more_tree, ReadsSide, reads_side, ReadsCond, reads_cond, ReadsMoreConjs, no_more_conjs, one_more_conj, ReadsConj, reads_conj, ReadsMoreNegs, no_more_negs, one_more_neg, ReadsNeg, not_negated, reads_negated, ReadsPrim, reads_group, reads_compared, comparing_word}
 use Rattle.qs_ruletext.specs.Rules.{ReadsCondIfGiven, no_cond, some_cond, ReadsRule, reads_rule, ReadsRules}
 use Rattle.qs_graphtext.specs.WrittenChains.{WrittenChain}
 use Rattle.qs_graphtext.specs.Reading as graphs
 use Rattle.qs_graphtext.specs.Reading.{ReadsPlain, reads_plain, plains_inside, ReadsPlains, reads_plains, ReadsMorePlains, no_more_plains, one_more_plain, ReadsRooted, reads_rooted, ReadsTrees, reads_trees, ReadsChain, reads_chain, ReadsMoreChains, no_more_chains, one_more_chain, ReadsChains, reads_chains, ReadsGraph, reads_graph}
 use Rattle.qs_deck.specs.WrittenDecks.{WrittenSystem, WrittenDeck}
-use Rattle.qs_deck.specs.Reading.{ReadsSystem, reads_system, ReadsSystems, ReadsDeck}
+use Rattle.qs_deck.specs.Versions.{IsVersionLine, no_line, the_line}
+use Rattle.qs_deck.specs.Reading.{ReadsMark, no_mark, a_mark, ReadsSystem, reads_system, ReadsSystems, ReadsDeck}
 
 -- ---- side by side
 
@@ -110,7 +112,7 @@ item {t} {ts} s plain begins also of next = record {
     by false = refl
 
 -- behind a token that compares nothing: one that compares nothing
-sign : {t : Token} {ts : List Token} (s : Sort) → compares s ≡ false → IsOf s t → BehindPlain ts → BehindPlain (t ∷ ts)
+pub sign : {t : Token} {ts : List Token} (s : Sort) → compares s ≡ false → IsOf s t → BehindPlain ts → BehindPlain (t ∷ ts)
 sign {t} {ts} s plain of next = record {
   chain = λ before also.
       one_token t ts s before of
@@ -276,10 +278,14 @@ module _ (names : List (List ℕ)) (text : List ℕ) where
   rules_chain [] ts rest e next = subst BehindPlain (sym e) next
   rules_chain (r ∷ rules) ts rest h next = any_plain (rule_chain h.1.rule (rules_chain rules h.0 rest h.2 next))
 
+  mark_chain : {ts rest : List Token} {unique : Bool} → ReadsMark ts unique rest → BehindPlain rest → BehindPlain ts
+  mark_chain no_mark next = next
+  mark_chain (a_mark is) next = sign (the_word Unique) refl is next
+
   system_chain : {ts rest : List Token} {system : WrittenSystem} → ReadsSystem names text ts system rest → BehindPlain rest → BehindPlain ts
-  system_chain (reads_system {ts} {rest} {system = s} e at label f rules) next =
+  system_chain (reads_system {ts} {rest} {system = s} e at label mark f rules) next =
       sign (the_word Systeme) refl e
-      (sign a_label refl (is_label label) (sign stop refl f (rules_chain s.rules ts rest rules next)))
+      (sign a_label refl (is_label label) (mark_chain mark (sign stop refl f (rules_chain s.rules ts rest rules next))))
 
   systems_chain : (systems : List WrittenSystem) (ts rest : List Token) → ReadsSystems names text ts systems rest → BehindPlain rest → BehindPlain ts
   systems_chain [] ts rest e next = subst BehindPlain (sym e) next
@@ -288,3 +294,8 @@ module _ (names : List (List ℕ)) (text : List ℕ) where
   -- the tokens of a deck
   pub deck_chain : {ts : List Token} {deck : WrittenDeck} → ReadsDeck names text ts deck [] → BehindPlain ts
   deck_chain {ts} {deck} r = systems_chain deck.systems ts (r.first ∷ r.behind) r.systems (graph_chain r.graph (record { chain = λ before plain. tt }))
+
+  -- and of the line of the version in front of them
+  pub line_chain : {version : ℕ} {front body : List Token} → IsVersionLine text version front → BehindPlain body → BehindPlain (front ++ body)
+  line_chain no_line next = next
+  line_chain (the_line word number dot) next = sign (the_word Version) refl word (sign a_label refl (ap sort_of number.bare) (sign stop refl dot next))

@@ -35,11 +35,11 @@ first_left (left ∷ lefts) = left
 
 -- a text has one deck or one refusal
 pub record OneDeck : Type 0 where
-  pub deck : (text : List ℕ) (names others : List (List ℕ)) (grammars more : List Grammar) (G H : QGraph)
-      → IsDeckOf text names grammars G → IsDeckOf text others more H → (names ≡ others) × (grammars ≡ more) × (G ≡ H)
+  pub deck : (text : List ℕ) (v w : ℕ) (names others : List (List ℕ)) (grammars more : List Grammar) (G H : QGraph)
+      → IsDeckOf text v names grammars G → IsDeckOf text w others more H → (v ≡ w) × (names ≡ others) × (grammars ≡ more) × (G ≡ H)
   pub refusal : (text : List ℕ) (r s : Refusal) → IsRefusalOf text r → IsRefusalOf text s → r ≡ s
-  pub not_both : (text : List ℕ) (names : List (List ℕ)) (grammars : List Grammar) (G : QGraph) (r : Refusal)
-      → IsDeckOf text names grammars G → IsRefusalOf text r → ⊥
+  pub not_both : (text : List ℕ) (version : ℕ) (names : List (List ℕ)) (grammars : List Grammar) (G : QGraph) (r : Refusal)
+      → IsDeckOf text version names grammars G → IsRefusalOf text r → ⊥
 
 nothing_more : (known : Option (List ℕ)) → known ≡ append_known known []
 nothing_more None = refl
@@ -47,14 +47,14 @@ nothing_more (Some bytes) = ap (λ (b : List ℕ). Some b) (sym (append-nil byte
 
 module _ (one_outcome : OneOutcome) where
   -- with a deck one thing is done
-  same_done : (which : Command) (L : ℕ) (names : List (List ℕ)) (grammars : List Grammar) (graph : QGraph) (t u : List ℕ) (s r : Status)
-      → IsDone which L names grammars graph t s → IsDone which L names grammars graph u r → (t ≡ u) × (s ≡ r)
-  same_done command.Run L names grammars graph t u s r a b =
+  same_done : (which : Command) (L version : ℕ) (names : List (List ℕ)) (grammars : List Grammar) (graph : QGraph) (t u : List ℕ) (s r : Status)
+      → IsDone which L version names grammars graph t s → IsDone which L version names grammars graph u r → (t ≡ u) × (s ≡ r)
+  same_done command.Run L version names grammars graph t u s r a b =
       let both = one_outcome L names graph grammars t u a.ending b.ending a.outcome b.outcome in
       (both.0, a.status_is ∙ ap status_of both.1 ∙ sym b.status_is)
-  same_done command.Check L names grammars graph t u s r a b = (a.text_is ∙ sym b.text_is, a.status_is ∙ sym b.status_is)
-  same_done command.Graph L names grammars graph t u s r a b = (a.text_is ∙ sym b.text_is, a.status_is ∙ sym b.status_is)
-  same_done command.Made L names grammars graph t u s r a b = absurd a
+  same_done command.Check L version names grammars graph t u s r a b = (a.text_is ∙ sym b.text_is, a.status_is ∙ sym b.status_is)
+  same_done command.Graph L version names grammars graph t u s r a b = (a.text_is ∙ sym b.text_is, a.status_is ∙ sym b.status_is)
+  same_done command.Made L version names grammars graph t u s r a b = absurd a
 
   module _ (one_cascade : OneCascade) where
     -- of a made deck one thing is told
@@ -66,19 +66,19 @@ module _ (one_outcome : OneOutcome) where
     pub same_definition : OneDeck → (job : Job) (bytes t u : List ℕ) (s r : Status) → IsDefined job bytes t s → IsDefined job bytes u r → (t ≡ u) × (s ≡ r)
     same_definition one job bytes t u s r (of_refused p a) (of_refused q b) =
         (a.text_is ∙ ap refusal_line (one.refusal bytes a.refusal b.refusal a.refused b.refused) ∙ sym b.text_is, a.status_is ∙ sym b.status_is)
-    same_definition one job bytes t u s r (of_refused p a) (of_deck b) = absurd (one.not_both bytes b.names b.grammars b.graph a.refusal b.deck a.refused)
-    same_definition one job bytes t u s r (of_deck a) (of_refused q b) = absurd (one.not_both bytes a.names a.grammars a.graph b.refusal a.deck b.refused)
+    same_definition one job bytes t u s r (of_refused p a) (of_deck b) = absurd (one.not_both bytes b.version b.names b.grammars b.graph a.refusal b.deck a.refused)
+    same_definition one job bytes t u s r (of_deck a) (of_refused q b) = absurd (one.not_both bytes a.version a.names a.grammars a.graph b.refusal a.deck b.refused)
     same_definition one job bytes t u s r (of_deck a) (of_deck b) =
-        let (names, grammars, graph) = one.deck bytes a.names b.names a.grammars b.grammars a.graph b.graph a.deck b.deck in
-        let P : List (List ℕ) × List Grammar × QGraph → Type 0 = λ x. IsDone job.command job.limit x.0 x.1 x.2 t s in
-        let same : ◌≡◌ {A = List (List ℕ) × List Grammar × QGraph} (a.names, a.grammars, a.graph) (b.names, b.grammars, b.graph) =
-        λ i. (names i, grammars i, graph i) in
-        same_done job.command job.limit b.names b.grammars b.graph t u s r (subst P same a.done) b.done
+        let (version, names, grammars, graph) = one.deck bytes a.version b.version a.names b.names a.grammars b.grammars a.graph b.graph a.deck b.deck in
+        let P : ℕ × List (List ℕ) × List Grammar × QGraph → Type 0 = λ x. IsDone job.command job.limit x.0 x.1 x.2 x.3 t s in
+        let same : ◌≡◌ {A = ℕ × List (List ℕ) × List Grammar × QGraph} (a.version, a.names, a.grammars, a.graph) (b.version, b.names, b.grammars, b.graph) =
+        λ i. (version i, names i, grammars i, graph i) in
+        same_done job.command job.limit b.version b.names b.grammars b.graph t u s r (subst P same a.done) b.done
     same_definition one job bytes t u s r (of_made m a) (of_made n b) = same_made job.limit job.size t u s r a b
     same_definition one job bytes t u s r (of_made m a) (of_refused q b) = absurd (subst Reads m q)
     same_definition one job bytes t u s r (of_refused p a) (of_made n b) = absurd (subst Reads n p)
-    same_definition one job bytes t u s r (of_made m a) (of_deck b) = absurd (subst (λ which. IsDone which job.limit b.names b.grammars b.graph u r) m b.done)
-    same_definition one job bytes t u s r (of_deck a) (of_made n b) = absurd (subst (λ which. IsDone which job.limit a.names a.grammars a.graph t s) n a.done)
+    same_definition one job bytes t u s r (of_made m a) (of_deck b) = absurd (subst (λ which. IsDone which job.limit b.version b.names b.grammars b.graph u r) m b.done)
+    same_definition one job bytes t u s r (of_deck a) (of_made n b) = absurd (subst (λ which. IsDone which job.limit a.version a.names a.grammars a.graph t s) n a.done)
 
     -- so what was written is a prefix of whatever text is defined
     pub prefix_of_each : OneDeck → (job : Job) (bytes : List ℕ) (old new : Option (List ℕ)) → KeepsToDefined job bytes old new

@@ -1,13 +1,13 @@
 -- A written deck that is passed: its labels are written alike under other names that keep what has no end of a line, no condition
 -- in it compares an empty list, and its graph has no more nodes than marks can tell, since each node stands on an arc.
-use Rattle.std.proofs.Common.{◌≡◌, ℕ, ◌≤◌, refl, sym, ap, ◌∙◌, subst, inl, inr, ⊎_elim, List, [], ◌∷◌, ◌++◌, length, drop, codes, arith, append_assoc}
+use Rattle.std.proofs.Common.{◌≡◌, ◌⊎◌, ℕ, ◌≤◌, Bool, true, false, refl, sym, ap, ◌∙◌, subst, inl, inr, ⊎_elim, List, [], ◌∷◌, ◌++◌, length, drop, codes, arith, append_assoc}
 use Rattle.std.specs.Prelude.{decimal, flat_map}
-use Rattle.std.proofs.lemmas.Bool.{cases_lt}
+use Rattle.std.proofs.lemmas.Bool.{cases_lt, false≢true}
 use Rattle.qs_lex.specs.Tokens.{version_of, bytes_of, AreTokensOf, Reads}
-use Rattle.qs_lex.specs.Grammar.{Sort, a_node_mark, the_word, opening, closing, comma, stop}
+use Rattle.qs_lex.specs.Grammar.{Sort, a_label, a_node_mark, the_word, opening, closing, comma, stop}
 use Rattle.qs_lex.specs.declared.token.Token.{Token}
-use Rattle.qs_lex.specs.declared.token.Kind.TheVariants.{Node, Word as a_word, Opening, Closing, Comma, Stop}
-use Rattle.qs_lex.specs.declared.token.Word.TheVariants.{Systeme, Graphe}
+use Rattle.qs_lex.specs.declared.token.Kind.TheVariants.{Bare, Node, Word as a_word, Opening, Closing, Comma, Stop}
+use Rattle.qs_lex.specs.declared.token.Word.TheVariants.{Systeme, Graphe, Version, Unique}
 use Rattle.qs_tree.specs.Lists.{◌∈◌}
 use Rattle.qs_tree.specs.Trees.{Forest, no_tree, first_tree, Tree}
 use Rattle.qs_tree.specs.Text.{name_of, label_text, in_parentheses, behind_comma, forest_text, tree_text}
@@ -19,10 +19,11 @@ use Rattle.qs_graph.specs.Graphs.{Arc, QGraph, IsValid}
 use Rattle.qs_graphtext.specs.Texts.{line, node_mark, arc_line, graph_text}
 use Rattle.qs_graphtext.proofs.NodesOnArcs.{on_arc}
 use Rattle.qs_deck.specs.Decks.{Grammar}
-use Rattle.qs_deck.specs.Texts.{rule_line, grammar_text, deck_text}
+use Rattle.qs_deck.specs.Texts.{rule_line, mark_text, grammar_text, version_text, deck_text}
+use Rattle.qs_deck.proofs.DecksReadBack.{two_is_label}
 use Rattle.qsys.proofs.Neighbours.{Chain}
 use Rattle.qsys.proofs.MarksRead.{number_fits}
-use Rattle.qsys.proofs.Passing.{IsAt, IsBehind, Shows, pass_none, pass_kind, token_there}
+use Rattle.qsys.proofs.Passing.{IsAt, IsBehind, Shows, word_known, pass_none, pass_kind, token_there}
 use Rattle.qsys.proofs.PassingRules.{HasFullListsIfGiven, KeepsLines, label_passed, rule_passed}
 
 -- the numbers of its nodes are not too great for marks
@@ -32,6 +33,17 @@ Fits arc = (arc.from ≤ 999999999) × (arc.to ≤ 999999999)
 -- no condition in these rules compares an empty list, and texts of this version tell the rules
 abbrev pub HaveFull : ℕ → List Rule → Type 0
 HaveFull version rules = (rule : Rule) → rule ∈ rules → HasFullListsIfGiven rule.condition × IsRuleToldIn version (unmarked rule)
+
+-- what is known of a grammar that was passed: no condition in it compares an empty list, and texts of this version tell its
+-- rules and its mark
+pub record IsPassedGrammar (version : ℕ) (grammar : Grammar) : Type 0 where
+  pub full : HaveFull version grammar.rules
+  pub mark_told : grammar.unique ≡ true → 2 ≤ version
+
+-- what stands behind a name closes it
+closes_label : (unique : Bool) (left : List ℕ) → Closes (mark_text unique ++ (codes "." ++ left))
+closes_label true left = refl
+closes_label false left = refl
 
 module _ (text : List ℕ) where
   end_passed : (before : Sort) (left : List ℕ) → IsAt text before (codes "\n" ++ left) → IsAt text before left
@@ -47,6 +59,27 @@ module _ (text : List ℕ) where
       let t : Token = found.0 in
       let fits = number_fits n left t.kind (bytes_of text t) (drop t.to text) found.1.spelled (found.2 ∙ ap (λ bs. 45 ∷ bs) (append_assoc (decimal n) (45 ∷ []) left)) in
       (fits, (pass_kind text (Node n) (node_mark n) before (node_mark n) left (token text (Node n) tt (node_mark n) left (some, fits, refl) tt refl) at).1)
+
+  -- a mark that stands there is told by texts of this version
+  unique_passed : (unique : Bool) (before : Sort) (left : List ℕ) → IsAt text before (mark_text unique ++ left) → (unique ≡ true → 2 ≤ version_of text) × IsBehind text left
+  unique_passed false before left at = ((λ t. absurd (false≢true t)), (before, at))
+  unique_passed true before left at =
+      let a = pass_none text before (32 ∷ []) (codes "-UNIQUE-" ++ left) (space text (codes "-UNIQUE-" ++ left)) at in
+      let known = word_known text before Unique left a in
+      let b = pass_kind text (a_word Unique) (codes "-UNIQUE-") before (codes "-UNIQUE-") left (token text (a_word Unique) known (codes "-UNIQUE-") left refl tt refl) a in
+      ((λ t. known), (the_word Unique, b.1))
+
+  -- the line of the version
+  version_passed : (version : ℕ) → (version ≡ 1) ⊎ (version ≡ 2) → (before : Sort) (left : List ℕ) → IsAt text before (version_text version ++ left) → IsBehind text left
+  version_passed version (inl first) before left at = (before, subst (λ v. IsAt text before (version_text v ++ left)) first at)
+  version_passed version (inr second) before left at =
+      let rest : List ℕ = codes " 2.\n" ++ left in
+      let here : IsAt text before (codes "-VERSION-" ++ rest) = subst (λ v. IsAt text before (version_text v ++ left)) second at in
+      let known = word_known text before Version rest here in
+      let a = pass_kind text (a_word Version) (codes "-VERSION-") before (codes "-VERSION-") rest (token text (a_word Version) known (codes "-VERSION-") rest refl tt refl) here in
+      let b = pass_none text (the_word Version) (32 ∷ []) (codes "2.\n" ++ left) (space text (codes "2.\n" ++ left)) a.1 in
+      let c = pass_kind text Bare (codes "2") (the_word Version) (codes "2") (codes ".\n" ++ left) (token text Bare tt (codes "2") (codes ".\n" ++ left) two_is_label refl refl) b in
+      (stop, end_passed stop left (stop_passed a_label (codes "\n" ++ left) c.1))
 
   module _ (names others : List (List ℕ)) (keeps : KeepsLines names others) where
     -- ---- rules and grammars
@@ -69,34 +102,36 @@ module _ (text : List ℕ) where
 
     grammar_passed : (grammar : Grammar) → ((rule : Rule) → rule ∈ grammar.rules → IsAccepted rule) → (before : Sort) (left : List ℕ)
         → IsAt text before (grammar_text names grammar ++ left)
-        → HaveFull (version_of text) grammar.rules × (grammar_text names grammar ≡ grammar_text others grammar) × IsBehind text left
+        → IsPassedGrammar (version_of text) grammar × (grammar_text names grammar ≡ grammar_text others grammar) × IsBehind text left
     grammar_passed grammar accepted before left at =
         let label : List ℕ = label_text (name_of names grammar.name) in
         let rules : List ℕ = flat_map (rule_line names) grammar.rules in
         let rest : List ℕ = codes "\n" ++ (rules ++ left) in
-        let behind : List ℕ = codes "." ++ rest in
+        let mark : List ℕ = mark_text grammar.unique in
+        let behind : List ℕ = mark ++ (codes "." ++ rest) in
         let whole : IsAt text before (codes "-SYSTEME-" ++ (32 ∷ (label ++ behind))) =
         subst (IsAt text before)
-        (append_assoc (line (codes "-SYSTEME- " ++ (label ++ codes "."))) rules left
-        ∙ append_assoc (codes "-SYSTEME- " ++ (label ++ codes ".")) (codes "\n") (rules ++ left)
-        ∙ ap (λ bs. codes "-SYSTEME- " ++ bs) (append_assoc label (codes ".") rest))
+        (append_assoc (line (codes "-SYSTEME- " ++ (label ++ (mark ++ codes ".")))) rules left
+        ∙ append_assoc (codes "-SYSTEME- " ++ (label ++ (mark ++ codes "."))) (codes "\n") (rules ++ left)
+        ∙ ap (λ bs. codes "-SYSTEME- " ++ bs) (append_assoc label (mark ++ codes ".") rest ∙ ap (λ bs. label ++ bs) (append_assoc mark (codes ".") rest)))
         at in
         let a = pass_kind text (a_word Systeme) (codes "-SYSTEME-") before (codes "-SYSTEME-") (32 ∷ (label ++ behind)) (token text (a_word Systeme) (first_version text) (codes "-SYSTEME-") (32 ∷ (label ++ behind)) refl tt refl) whole in
         let b = pass_none text (the_word Systeme) (32 ∷ []) (label ++ behind) (space text (label ++ behind)) a.1 in
-        let c = label_passed text names others keeps grammar.name (the_word Systeme) behind refl b in
-        let d = end_passed stop (rules ++ left) (stop_passed c.1.0 rest c.1.1) in
+        let c = label_passed text names others keeps grammar.name (the_word Systeme) behind (closes_label grammar.unique rest) b in
+        let m = unique_passed grammar.unique c.1.0 (codes "." ++ rest) c.1.1 in
+        let d = end_passed stop (rules ++ left) (stop_passed m.1.0 rest m.1.1) in
         let e = rules_passed grammar.rules accepted stop left d in
-        (e.0, (λ i. line (codes "-SYSTEME- " ++ (c.0 i ++ codes ".")) ++ e.1 i), e.2)
+        (record { full = e.0; mark_told = m.0 }, (λ i. line (codes "-SYSTEME- " ++ (c.0 i ++ (mark ++ codes "."))) ++ e.1 i), e.2)
 
     grammars_passed : (grammars : List Grammar) → ((grammar : Grammar) → grammar ∈ grammars → (rule : Rule) → rule ∈ grammar.rules → IsAccepted rule) → (before : Sort) (left : List ℕ)
         → IsAt text before (flat_map (grammar_text names) grammars ++ left)
-        → ((grammar : Grammar) → grammar ∈ grammars → HaveFull (version_of text) grammar.rules) × (flat_map (grammar_text names) grammars ≡ flat_map (grammar_text others) grammars) × IsBehind text left
+        → ((grammar : Grammar) → grammar ∈ grammars → IsPassedGrammar (version_of text) grammar) × (flat_map (grammar_text names) grammars ≡ flat_map (grammar_text others) grammars) × IsBehind text left
     grammars_passed [] accepted before left at = ((λ grammar i. absurd i), refl, (before, at))
     grammars_passed (grammar ∷ grammars) accepted before left at =
         let texts : List ℕ = flat_map (grammar_text names) grammars in
         let x = grammar_passed grammar (accepted grammar (inl refl)) before (texts ++ left) (subst (IsAt text before) (append_assoc (grammar_text names grammar) texts left) at) in
         let y = grammars_passed grammars (λ other i. accepted other (inr i)) x.2.0 left x.2.1 in (
-          λ other i. ⊎_elim (λ e. subst (λ (g : Grammar). HaveFull (version_of text) g.rules) (sym e) x.0) (y.0 other) i,
+          λ other i. ⊎_elim (λ e. subst (λ (g : Grammar). IsPassedGrammar (version_of text) g) (sym e) x.0) (y.0 other) i,
           (λ i. x.1 i ++ y.1 i),
           y.2,
         )
@@ -187,22 +222,22 @@ module _ (text : List ℕ) where
 -- ---- decks
 
 -- what is known of a deck that was passed
-pub record IsPassed (names others : List (List ℕ)) (grammars : List Grammar) (G : QGraph) : Type 0 where
-  pub full : (grammar : Grammar) → grammar ∈ grammars → HaveFull (version_of (deck_text names grammars G)) grammar.rules
-  pub alike : deck_text names grammars G ≡ deck_text others grammars G
+pub record IsPassed (version : ℕ) (names others : List (List ℕ)) (grammars : List Grammar) (G : QGraph) : Type 0 where
+  pub passed : (grammar : Grammar) → grammar ∈ grammars → IsPassedGrammar (version_of (deck_text version names grammars G)) grammar
+  pub alike : deck_text version names grammars G ≡ deck_text version others grammars G
   pub few : G.nodes ≤ 999999999
 
 -- a deck whose text has tokens, which may stand side by side
-pub deck_passed : (names others : List (List ℕ)) → KeepsLines names others → (grammars : List Grammar) → ((grammar : Grammar) → grammar ∈ grammars → (rule : Rule) → rule ∈ grammar.rules → IsAccepted rule)
-    → (G : QGraph) → IsValid G → (ts : List Token) → AreTokensOf (deck_text names grammars G) ts → Chain stop ts → IsPassed names others grammars G
-deck_passed names others keeps grammars accepted G valid ts are chain = record {
-  full = a.0;
-  alike = λ i. a.1 i ++ (line (codes "-GRAPHE-") ++ (c.1 i ++ line (codes "-FIN-")));
+pub deck_passed : (version : ℕ) → (version ≡ 1) ⊎ (version ≡ 2) → (names others : List (List ℕ)) → KeepsLines names others → (grammars : List Grammar) → ((grammar : Grammar) → grammar ∈ grammars → (rule : Rule) → rule ∈ grammar.rules → IsAccepted rule)
+    → (G : QGraph) → IsValid G → (ts : List Token) → AreTokensOf (deck_text version names grammars G) ts → Chain stop ts → IsPassed version names others grammars G
+deck_passed version which names others keeps grammars accepted G valid ts are chain = record {
+  passed = a.0;
+  alike = λ i. version_text version ++ (a.1 i ++ (line (codes "-GRAPHE-") ++ (c.1 i ++ line (codes "-FIN-"))));
   few = ⊎_elim (λ none. omega arith) last_fits (cases_lt G.nodes 1);
 }
   where
     text : List ℕ
-    text = deck_text names grammars G
+    text = deck_text version names grammars G
 
     graph : List ℕ
     graph = graph_text names G
@@ -210,13 +245,19 @@ deck_passed names others keeps grammars accepted G valid ts are chain = record {
     behind_word : List ℕ
     behind_word = flat_map (arc_line names) G.arcs ++ line (codes "-FIN-")
 
-    start : IsAt text stop (flat_map (grammar_text names) grammars ++ graph)
+    systems : List ℕ
+    systems = flat_map (grammar_text names) grammars ++ graph
+
+    start : IsAt text stop (version_text version ++ systems)
     start =
         let from : place text text ≡ 0 = omega arith in
         record { is = record { before = []; whole = refl }; tokens = ts; reads = subst (λ (k : ℕ). Reads text k ts (length text)) (sym from) are; chain = chain }
 
-    a : ((grammar : Grammar) → grammar ∈ grammars → HaveFull (version_of text) grammar.rules) × (flat_map (grammar_text names) grammars ≡ flat_map (grammar_text others) grammars) × IsBehind text graph
-    a = grammars_passed text names others keeps grammars accepted stop graph start
+    behind_line : IsBehind text systems
+    behind_line = version_passed text version which stop systems start
+
+    a : ((grammar : Grammar) → grammar ∈ grammars → IsPassedGrammar (version_of text) grammar) × (flat_map (grammar_text names) grammars ≡ flat_map (grammar_text others) grammars) × IsBehind text graph
+    a = grammars_passed text names others keeps grammars accepted behind_line.0 graph behind_line.1
 
     b : IsAt text (the_word Graphe) behind_word
     b =

@@ -16,7 +16,7 @@ renamed_chain g chain = record { from = chain.from; trees = map (renamed_tree g)
 
 -- a grammar has its name and its rules written so
 abbrev pub renamed_grammar : (ℕ → ℕ) → Grammar → Grammar
-renamed_grammar g grammar = record { name = renamed_label g grammar.name; rules = map (renamed_rule g) grammar.rules }
+renamed_grammar g grammar = record { name = renamed_label g grammar.name; unique = grammar.unique; rules = map (renamed_rule g) grammar.rules }
 
 -- each label in the graph that a grammar left, if it left one, is one of the first n
 abbrev pub IsLeftNamed : ℕ → Left → Type 0

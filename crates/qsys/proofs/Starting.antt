@@ -11,7 +11,7 @@ use Rattle.qs_deck.proofs.DecksAccepted.{trees_on_arcs}
 use Rattle.qsys.specs.working.Cascading.{CanGoOn}
 use Rattle.qsys.proofs.NodesFew.{nodes_few}
 
-module _ {bytes : List ℕ} {names : List (List ℕ)} {grammars : List Grammar} {graph : QGraph} (is : IsDeckOf bytes names grammars graph) where
+module _ {bytes : List ℕ} {version : ℕ} {names : List (List ℕ)} {grammars : List Grammar} {graph : QGraph} (is : IsDeckOf bytes version names grammars graph) where
   abbrev written : WrittenDeck
   written = is.written
 

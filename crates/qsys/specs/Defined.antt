@@ -44,9 +44,9 @@ pub record IsRunOf (limit : ℕ) (names : List (List ℕ)) (grammars : List Gram
   pub status_is : status ≡ status_of ending
 
 -- To check is to write the whole deck.
-pub record IsCheckOf (names : List (List ℕ)) (grammars : List Grammar) (graph : QGraph) (text : List ℕ)
+pub record IsCheckOf (version : ℕ) (names : List (List ℕ)) (grammars : List Grammar) (graph : QGraph) (text : List ℕ)
     (status : Status) : Type 0 where
-  pub text_is : text ≡ deck_text names grammars graph
+  pub text_is : text ≡ deck_text version names grammars graph
   pub status_is : status ≡ Done
 
 -- The command `graph` writes the graph of the deck, on which no grammar was run.
@@ -55,19 +55,20 @@ pub record IsGraphOf (names : List (List ℕ)) (graph : QGraph) (text : List ℕ
   pub status_is : status ≡ Done
 
 -- What is done with a deck that was read, by the command.
-abbrev pub IsDone : Command → ℕ → List (List ℕ) → List Grammar → QGraph → List ℕ → Status → Type 0
-IsDone command.Run limit names grammars graph text status = IsRunOf limit names grammars graph text status
-IsDone command.Check limit names grammars graph text status = IsCheckOf names grammars graph text status
-IsDone command.Graph limit names grammars graph text status = IsGraphOf names graph text status
-IsDone command.Made limit names grammars graph text status = ⊥
+abbrev pub IsDone : Command → ℕ → ℕ → List (List ℕ) → List Grammar → QGraph → List ℕ → Status → Type 0
+IsDone command.Run limit version names grammars graph text status = IsRunOf limit names grammars graph text status
+IsDone command.Check limit version names grammars graph text status = IsCheckOf version names grammars graph text status
+IsDone command.Graph limit version names grammars graph text status = IsGraphOf names graph text status
+IsDone command.Made limit version names grammars graph text status = ⊥
 
 -- With an accepted text the command is done.
 pub record IsAnswer (job : Job) (bytes text : List ℕ) (status : Status) : Type 0 where
+  pub version : ℕ
   pub names : List (List ℕ)
   pub grammars : List Grammar
   pub graph : QGraph
-  pub deck : IsDeckOf bytes names grammars graph
-  pub done : IsDone job.command job.limit names grammars graph text status
+  pub deck : IsDeckOf bytes version names grammars graph
+  pub done : IsDone job.command job.limit version names grammars graph text status
 
 -- What is told of a made deck, by what its grammar leaves of its graph: the summary, or that the limit was met.
 abbrev pub summary : ℕ → ℕ → Left → List ℕ

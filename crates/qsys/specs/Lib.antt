@@ -2,6 +2,7 @@ pub mod Texts
 pub mod Outcomes
 pub mod Pieces
 pub mod Defined
+pub mod Limits
 pub mod Words
 pub mod Answers
 pub mod Calls

@@ -15,18 +15,19 @@ use Rattle.clap.specs.declared.builder.value_parser.ValueParser.TheVariants as p
 use Rattle.qsys.specs.declared.job.Command.{Command}
 use Rattle.qsys.specs.declared.job.Command.TheVariants.{Run, Check, Graph, Made}
 use Rattle.qsys.specs.declared.job.Job.{Job}
+use Rattle.qsys.specs.Limits.{most_limit, most_workers as most_of_workers, most_size as most_of_size}
 
--- A limit is a number from 1 to 100,000.
+-- A limit is a number from 1 to 1,000,000.
 pub record IsLimit (n : ℕ) : Type 0 where
   pub low : 1 ≤ n
-  pub high : n ≤ 100000
+  pub high : n ≤ most_limit
 
--- The numbers of a job are in their ranges: a limit, 1 to 8 workers, and a size from 0 to 13.
+-- The numbers of a job are in their ranges: a limit, 1 to 32 workers, and a size from 0 to 13.
 pub record IsInRange (job : Job) : Type 0 where
   pub limit : IsLimit job.limit
   pub least_workers : 1 ≤ job.workers
-  pub most_workers : job.workers ≤ 8
-  pub most_size : job.size ≤ 13
+  pub most_workers : job.workers ≤ most_of_workers
+  pub most_size : job.size ≤ most_of_size
 
 -- An argument that is one word, without an option before it, and has to be there.
 abbrev pub required_word : List ℕ → Rule
@@ -46,14 +47,15 @@ number_option name least most default = record (new_rule name) {
 abbrev pub without_program : App → App
 without_program = on_top (λ shape. record shape { no_binary_name = true })
 
--- The simple command: the command word, and the options `--limit` (from 1 to 100,000, else 10,000), `--workers` (from 1
--- to 8, else 4) and `--size` (from 0 to 13, else 8).
+-- The simple command: the command word, and the options `--limit` (from 1 to 1,000,000, else 10,000), `--workers` (from
+-- 1 to 32, else 4) and `--size` (from 0 to 13, else 8).
 unfoldable pub simple_command : App
 simple_command =
     with_rule
     (with_rule (with_rule (with_rule (without_program (new_app (codes "qsys"))) (required_word (codes "command")))
-    (number_option (codes "limit") 1 100000 (codes "10000"))) (number_option (codes "workers") 1 8 (codes "4")))
-    (number_option (codes "size") 0 13 (codes "8"))
+    (number_option (codes "limit") 1 most_limit (codes "10000")))
+    (number_option (codes "workers") 1 most_of_workers (codes "4")))
+    (number_option (codes "size") 0 most_of_size (codes "8"))
 
 -- The command that a command word names: a line for each one that is known.
 abbrev pub command_of : List ℕ → Option Command

@@ -13,8 +13,8 @@ pub enum Command {
     Made,
 }
 
-/// A job: what is to be done, the most firings that a grammar may need, from 1 to 100,000, how many workers do it, from
-/// 1 to 8, and the size of a deck that is made, from 0 to 13.
+/// A job: what is to be done, the most firings that a grammar may need, from 1 to 1,000,000, how many workers do it,
+/// from 1 to 32, and the size of a deck that is made, from 0 to 13.
 #[derive(Clone, Copy, Debug, PartialEq, Eq)]
 pub struct Job {
     pub command: Command,

@@ -24,7 +24,7 @@ use std::alloc::{AllocError, Global};
 /// The text of the deck.
 fn deck_text(alloc: Global, deck: &Deck) -> Result<Vec<u8>, AllocError>
     ensures { IfOk result (λ text. text.items
-        ≡ deck_text deck.now.names (map grammar_of deck.now.systems.items) deck.now.graph) }
+        ≡ deck_text deck.now.version deck.now.names (map grammar_of deck.now.systems.items) deck.now.graph) }
 {
     let mut text = Vec::new(alloc);
     write_deck(alloc, deck, &mut text)?;
@@ -79,6 +79,7 @@ fn answer<K: Sink>(alloc: Global, job: &Job, bytes: &[u8], sink: &mut K) -> Stat
                 names,
                 systems,
                 graph,
+                ..
             } = deck;
             cascade(alloc, &names, &systems, graph, job.limit, sink)
         }
@@ -133,7 +134,7 @@ fn read_and_answer<S: Source, K: Sink>(
 }
 
 /// Does the job: reads the source to its end and the deck that it means, and writes to the sink what is defined; or
-/// makes a deck, and reads nothing. The limit is from 1 to 100,000 and the size from 0 to 13. One worker does it,
+/// makes a deck, and reads nothing. The limit is from 1 to 1,000,000 and the size from 0 to 13. One worker does it,
 /// whatever the job says of workers. It always returns, and never waits.
 ///
 /// - `run` runs the grammars one after another and writes what each leaves, when it has ended; `check` writes the deck

@@ -69,8 +69,8 @@ fn simple_command<'a>(alloc: Global) -> Result<clap::Command<'a>, AllocError>
     clap::Command::new(alloc, "qsys")
         .no_binary_name(true)
         .arg(required_word(alloc, "command"))?
-        .arg(number_option(alloc, "limit", 1, 100_000, "10000"))?
-        .arg(number_option(alloc, "workers", 1, 8, "4"))?
+        .arg(number_option(alloc, "limit", 1, 1_000_000, "10000"))?
+        .arg(number_option(alloc, "workers", 1, 32, "4"))?
         .arg(number_option(alloc, "size", 0, 13, "8"))
 }
 
@@ -113,7 +113,7 @@ fn job_in(matches: &ArgMatches<'_>) -> Option<Job>
 }
 
 /// Reads the words, those behind the program's name: a command word that is known, with the options `--limit` (from 1
-/// to 100,000, else 10,000), `--workers` (from 1 to 8, else 4) and `--size` (from 0 to 13, else 8) anywhere. `Usage`
+/// to 1,000,000, else 10,000), `--workers` (from 1 to 32, else 4) and `--size` (from 0 to 13, else 8) anywhere. `Usage`
 /// comes exactly where `clap` refuses the words, which it does for `--help` too, or the command word isn't known;
 /// `Memory` comes where memory was wanting, and says nothing of the words.
 pub fn read_words(alloc: Global, words: &[String]) -> Result<Job, WordsEnd>

@@ -21,8 +21,8 @@ pub fn words_written_out()
     ensures alone { IsJobOf (codes "run" ∷ []) (record { command = Run; limit = 10000; workers = 4; size = 8 }) }
     ensures limited { IsJobOf (codes "run" ∷ codes "--limit" ∷ codes "5" ∷ [])
         (record { command = Run; limit = 5; workers = 4; size = 8 }) }
-    ensures in_front { IsJobOf (codes "--size=0" ∷ codes "--workers" ∷ codes "8" ∷ codes "run" ∷ [])
-        (record { command = Run; limit = 10000; workers = 8; size = 0 }) }
+    ensures in_front { IsJobOf (codes "--size=0" ∷ codes "--workers" ∷ codes "32" ∷ codes "run" ∷ [])
+        (record { command = Run; limit = 10000; workers = 32; size = 0 }) }
     ensures least_workers { IsJobOf (codes "run" ∷ codes "--workers" ∷ codes "1" ∷ [])
         (record { command = Run; limit = 10000; workers = 1; size = 8 }) }
     ensures greatest_size { IsJobOf (codes "run" ∷ codes "--size" ∷ codes "13" ∷ [])
@@ -39,7 +39,7 @@ pub fn words_written_out()
     ensures no_words { AreRefused [] }
     ensures unknown { AreRefused (codes "walk" ∷ []) }
     ensures too_few { AreRefused (codes "run" ∷ codes "--limit" ∷ codes "0" ∷ []) }
-    ensures too_many { AreRefused (codes "run" ∷ codes "--workers" ∷ codes "9" ∷ []) }
+    ensures too_many { AreRefused (codes "run" ∷ codes "--workers" ∷ codes "33" ∷ []) }
     ensures repeated { AreRefused (codes "run" ∷ codes "--limit=5" ∷ codes "--limit=5" ∷ []) }
     ensures help { AreRefused (codes "run" ∷ codes "--help" ∷ []) }
 {}

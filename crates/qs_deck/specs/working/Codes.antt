@@ -1,6 +1,6 @@
 -- How the logic tells written systems and decks apart. Nothing that a reader has to believe stands here.
-use Rattle.std.specs.Prelude.{ℕ, List, refl}
-use Rattle.std.specs.Coded.{Coded, code_by, coded×, coded_list, coded_ℕ}
+use Rattle.std.specs.Prelude.{ℕ, Bool, List, refl}
+use Rattle.std.specs.Coded.{Coded, code_by, coded×, coded_list, coded_ℕ, coded_bool}
 use Rattle.qs_tree.specs.declared.cell.Label.{Label}
 use Rattle.qs_tree.specs.contracts.cell.Label as label
 use Rattle.qs_ruletext.specs.WrittenRules.{WrittenRule}
@@ -11,9 +11,10 @@ use Rattle.qs_deck.specs.WrittenDecks.{WrittenSystem, WrittenDeck}
 
 abbrev pub system_code : Coded WrittenSystem
 system_code =
-    code_by (ℕ × (Label × List WrittenRule))
-    (coded× coded_ℕ (coded× label.the_row.coded (coded_list written_rule_code)))
-    (λ s. (s.at, (s.name, s.rules))) (λ p. record { at = p.0; name = p.1.0; rules = p.1.1 }) (λ _. refl)
+    code_by (ℕ × (Label × (Bool × List WrittenRule)))
+    (coded× coded_ℕ (coded× label.the_row.coded (coded× coded_bool (coded_list written_rule_code))))
+    (λ s. (s.at, (s.name, (s.unique, s.rules))))
+    (λ p. record { at = p.0; name = p.1.0; unique = p.1.1.0; rules = p.1.1.1 }) (λ _. refl)
 
 abbrev pub deck_code : Coded WrittenDeck
 deck_code =

@@ -1,25 +1,23 @@
--- No public contract cites this: what the private functions of the reader promise. A reader is given all tokens and the
--- place at which its part begins, and gives the place behind it.
-use Rattle.std.specs.Prelude.{◌≡◌, ℕ, ◌+◌, ◌-◌, ◌<◌, ◌≤◌, Bool, List, [], ◌∷◌, length, drop}
-use Rattle.qs_lex.specs.declared.token.Token.{Token}
-use Rattle.qs_lex.specs.declared.token.Word.TheVariants.{Systeme}
-use Rattle.qs_lex.specs.Tokens.{IsLabel}
-use Rattle.qs_lex.specs.Grammar.{Sort, the_word, stop, IsOf, Form, part, repeated}
+-- What the private functions of the reader of decks promise.
+use Rattle.std.specs.Prelude.{ℕ, ◌≤◌, Bool, List, length}
+use Rattle.qs_lex.specs.declared.token.Word.TheVariants.{Systeme, Unique}
+use Rattle.qs_lex.specs.Grammar.{Sort, the_word, Form, one, part, ◌·◌, optional, repeated}
 use Rattle.qs_lex.specs.Expecting.{same_sort}
-use Rattle.qs_lex.specs.working.Expecting.{Leads, Stops}
-use Rattle.qs_ruletext.specs.declared.cursor.Halt.{Halt}
-use Rattle.qs_ruletext.specs.declared.cursor.Halt.TheVariants as halt
 use Rattle.qs_reader.specs.declared.text_end.TextEnd.{TextEnd}
-use Rattle.qs_reader.specs.declared.text_end.TextEnd.TheVariants as text_end
-use Rattle.qs_ruletext.specs.Rules.{KeepsNames, NoRuleAt, between}
-use Rattle.qs_ruletext.specs.Names.{NamesGrow}
+use Rattle.qs_reader.specs.Readers.{Reading}
+use Rattle.qs_reader.specs.working.Readers.{Reads}
+use Rattle.qs_reader.specs.working.Readers as reader
+use Rattle.qs_ruletext.specs.WrittenRules.{WrittenRule}
+use Rattle.qs_ruletext.specs.Grammar as rules
+use Rattle.qs_ruletext.specs.Rules.{ReadsRules}
 use Rattle.qs_ruletext.specs.working.Readers as rule_readers
-use Rattle.qs_ruletext.specs.Cursors.{IsNext}
+use Rattle.qs_graphtext.specs.WrittenChains.{WrittenChain}
 use Rattle.qs_graphtext.specs.Grammar as graphs
+use Rattle.qs_graphtext.specs.Reading.{ReadsGraph}
 use Rattle.qs_graphtext.specs.working.Readers as graph_readers
-use Rattle.qs_deck.specs.WrittenDecks.{WrittenSystem}
+use Rattle.qs_deck.specs.WrittenDecks.{WrittenSystem, WrittenDeck}
 use Rattle.qs_deck.specs.Grammar.{Part, deck, system, of_rules, of_graphs, line}
-use Rattle.qs_deck.specs.Reading.{ReadsSystem, ReadsSystems}
+use Rattle.qs_deck.specs.Reading.{ReadsMark, ReadsSystem, ReadsSystems, ReadsDeck}
 
 -- which sorts the parts may begin with
 abbrev pub table : Part → Sort → Bool
@@ -28,55 +26,44 @@ table system = same_sort (the_word Systeme)
 table (of_rules p) = rule_readers.table p
 table (of_graphs p) = graph_readers.table p
 
--- what a reader of decks expects behind a system
-abbrev pub behind_system : List (Form Part)
-behind_system = repeated (part system) ∷ part (of_graphs graphs.graph) ∷ []
+-- what readers do and where they stop, by these lines
+abbrev pub IsRead : Form Part → Reads → Reading → Reading → List (List ℕ) → List (List ℕ) → Type 0
+IsRead form R r s old new = reader.IsRead line table form R r s old new
 
--- the tokens begin with the heading of a system, of which these are the word and the name
-pub record IsHeading (tokens : List Token) (word name : Token) : Type 0 where
-  pub dot : Token
-  pub rest : List Token
-  pub are : tokens ≡ word ∷ name ∷ dot ∷ rest
-  pub of_word : IsOf (the_word Systeme) word
-  pub of_name : IsLabel name
-  pub of_dot : IsOf stop dot
+abbrev pub IsReadSoFar : Form Part → Form Part → Reads → Reading → Reading → List (List ℕ) → List (List ℕ) → Type 0
+IsReadSoFar form member R r s old new = reader.IsReadSoFar line table form member R r s old new
 
--- a reader that expects a system stops in its heading
-abbrev pub EndsInHeading : List Token → Halt → Type 0
-EndsInHeading tokens (halt.Syntax left) = Stops line (part system ∷ behind_system) tokens left
-EndsInHeading tokens halt.Memory = Unit {0}
+abbrev pub Ends : Form Part → Reading → TextEnd → Type 0
+Ends form r end = reader.Ends line table form r end
 
--- a reader that expects these forms from the place `from` on stops at the place `at`
-pub record StopsAt (forms : List (Form Part)) (tokens : List Token) (from at : ℕ) : Type 0 where
-  pub within : at ≤ length tokens
-  pub stops : Stops line forms (drop from tokens) (length tokens - at)
+-- the mark of a system, which may be left out, its rules, the systems of a deck, and its graph
+abbrev pub may_be_marked : Form Part
+may_be_marked = optional (one (the_word Unique))
 
-abbrev pub EndsIn : List (Form Part) → List Token → ℕ → TextEnd → Type 0
-EndsIn forms tokens from (text_end.Syntax at) = StopsAt forms tokens from at
-EndsIn forms tokens from text_end.Memory = Unit {0}
+abbrev pub some_rules : Form Part
+some_rules = repeated (part (of_rules rules.rule))
 
--- what the reader of a system leaves: what it read, in these names and in all that keep them, and no rule behind it
-pub record IsSystemRead (text : List ℕ) (tokens : List Token) (from : ℕ) (written : WrittenSystem) (to : ℕ)
-    (old new : List (List ℕ)) : Type 0 where
-  pub reads : (later : List (List ℕ)) → KeepsNames new later
-      → ReadsSystem later text (drop from tokens) written (drop to tokens)
-  pub ended : NoRuleAt tokens to
-  pub names : NamesGrow text (between tokens from to) old new
-  pub begun : from < to
-  pub within : to ≤ length tokens
-  pub few : length new + from ≤ length old + to
+abbrev pub some_systems : Form Part
+some_systems = part system · repeated (part system)
 
--- the next token is `-SYSTEME-`
-abbrev pub NextIsWord : List Token → Type 0
-NextIsWord tokens = (rest : List Token) × IsNext (the_word Systeme) tokens rest
+abbrev pub one_graph : Form Part
+one_graph = part (of_graphs graphs.graph)
 
--- the tokens up to this place are read as these systems, of which there is one at least, and more may follow
-pub record AreSystemsRead (text : List ℕ) (tokens : List Token) (systems : List WrittenSystem) (to : ℕ)
-    (old new : List (List ℕ)) : Type 0 where
-  pub keeps : KeepsNames old new
-  pub reads : (later : List (List ℕ)) → KeepsNames new later → ReadsSystems later text tokens systems (drop to tokens)
-  pub some : 1 ≤ length systems
-  pub leads : Leads line (part deck ∷ []) tokens behind_system (drop to tokens)
-  pub names : NamesGrow text (between tokens 0 to) old new
-  pub within : to ≤ length tokens
-  pub few : length new ≤ length old + to
+-- What is read from the tokens of each part, as a relation of tokens.
+abbrev pub Rules : List WrittenRule → Reads
+Rules raws names text ts rest = ReadsRules names text ts raws rest
+
+abbrev pub AMark : Bool → Reads
+AMark unique names text ts rest = ReadsMark ts unique rest
+
+abbrev pub ASystem : WrittenSystem → Reads
+ASystem written names text ts rest = ReadsSystem names text ts written rest
+
+abbrev pub Systems : List WrittenSystem → Reads
+Systems systems names text ts rest = (1 ≤ length systems) × ReadsSystems names text ts systems rest
+
+abbrev pub AGraph : List WrittenChain → Reads
+AGraph chains names text ts rest = ReadsGraph names text ts chains rest
+
+abbrev pub ADeck : WrittenDeck → Reads
+ADeck written names text ts rest = ReadsDeck names text ts written rest

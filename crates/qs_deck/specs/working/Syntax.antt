@@ -1,11 +1,12 @@
--- Why a reader of tokens gave no deck.
-use Rattle.std.specs.Prelude.{List, []}
+-- Where what stands behind the line of the version can't go on.
+use Rattle.std.specs.Prelude.{◌≡◌, ℕ, ◌≤◌, List, [], ◌∷◌, ◌++◌, length, take, Some, slice_get}
 use Rattle.qs_lex.specs.declared.token.Token.{Token}
-use Rattle.qs_reader.specs.declared.text_end.TextEnd.{TextEnd}
-use Rattle.qs_reader.specs.declared.text_end.TextEnd.TheVariants.{Syntax, Memory}
-use Rattle.qs_deck.specs.Syntax.{CannotGoOn}
+use Rattle.qs_lex.specs.Grammar.{part, IsWhole, Begins}
+use Rattle.qs_deck.specs.Grammar.{deck, line}
 
--- why no deck was read: it can't go on at this place, or there was no memory, which may come at any time
-abbrev pub EndsAt : List Token → TextEnd → Type 0
-EndsAt tokens (Syntax at) = CannotGoOn tokens at
-EndsAt tokens Memory = Unit {0}
+-- the same as CannotGoOn, of what stands behind the line
+pub record CannotGoOnBehind (tokens : List Token) (at : ℕ) : Type 0 where
+  pub within : at ≤ length tokens
+  pub begins : Begins line (part deck) (take at tokens)
+  pub no_further : (t : Token) → slice_get tokens at ≡ Some t → Begins line (part deck) (take at tokens ++ t ∷ []) → ⊥
+  pub not_whole : at ≡ length tokens → IsWhole line (part deck) tokens [] → ⊥

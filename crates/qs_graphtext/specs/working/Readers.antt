@@ -1,19 +1,20 @@
--- No public contract cites this: what the private functions of the reader promise. A reader is given what is left of
--- the tokens, and gives what is left behind the part that it read.
-use Rattle.std.specs.Prelude.{◌≡◌, ℕ, ◌+◌, ◌≤◌, Bool, List, [], ◌∷◌, ◌++◌, length}
+-- What the private functions of the reader of graphs promise.
+use Rattle.std.specs.Prelude.{◌≡◌, ℕ, Bool, List, ◌∷◌}
 use Rattle.qs_lex.specs.declared.token.Token.{Token}
 use Rattle.qs_lex.specs.declared.token.Kind.TheVariants.{Node}
 use Rattle.qs_lex.specs.declared.token.Word.TheVariants.{Graphe}
-use Rattle.qs_lex.specs.Tokens.{IsTokenOf}
-use Rattle.qs_lex.specs.Grammar.{Sort, a_label, a_node_mark, the_word, opening, closing, comma, IsOf, Form, one, part}
-use Rattle.qs_lex.specs.Grammar.{◌·◌, optional, repeated}
+use Rattle.qs_lex.specs.Grammar.{Sort, a_label, a_node_mark, the_word, opening, closing, comma, Form, one, part, ◌·◌}
+use Rattle.qs_lex.specs.Grammar.{optional, repeated}
 use Rattle.qs_lex.specs.Expecting.{same_sort}
-use Rattle.qs_lex.specs.working.Expecting.{Refuse, Leads, Stops}
-use Rattle.qs_ruletext.specs.declared.cursor.Halt.{Halt}
-use Rattle.qs_ruletext.specs.declared.cursor.Halt.TheVariants.{Syntax, Memory}
-use Rattle.qs_ruletext.specs.Rules.{KeepsNames}
-use Rattle.qs_reader.specs.working.Names.{NamesGrowUpTo}
+use Rattle.qs_tree.specs.Trees.{Forest, Tree}
+use Rattle.qs_reader.specs.declared.text_end.TextEnd.{TextEnd}
+use Rattle.qs_reader.specs.Readers.{Reading, IsPassed}
+use Rattle.qs_reader.specs.working.Readers.{Reads}
+use Rattle.qs_reader.specs.working.Readers as reader
+use Rattle.qs_graphtext.specs.WrittenChains.{WrittenChain}
 use Rattle.qs_graphtext.specs.Grammar.{Part, graph, chain, plain, line}
+use Rattle.qs_graphtext.specs.Reading.{ReadsPlain, ReadsSubtrees, ReadsPlains, ReadsRooted, ReadsTrees, ReadsChain}
+use Rattle.qs_graphtext.specs.Reading.{ReadsChains, ReadsGraph}
 
 -- which sorts the parts may begin with
 abbrev pub table : Part → Sort → Bool
@@ -21,45 +22,57 @@ table graph = same_sort (the_word Graphe)
 table chain = same_sort a_node_mark
 table plain = same_sort a_label
 
--- these are tokens of the text
-abbrev pub Readable : List ℕ → List Token → Type 0
-Readable text [] = Unit {0}
-Readable text (t ∷ ts) = IsTokenOf text t × Readable text ts
+-- what readers do and where they stop, by these lines
+abbrev pub IsRead : Form Part → Reads → Reading → Reading → List (List ℕ) → List (List ℕ) → Type 0
+IsRead form R r s old new = reader.IsRead line table form R r s old new
 
--- the next token is a node mark with this number, and the rest stands behind it
-abbrev pub IsNextMark : List Token → ℕ → List Token → Type 0
-IsNextMark tokens number rest = (t : Token) × (tokens ≡ t ∷ rest) × (t.kind ≡ Node number)
+abbrev pub IsReadSoFar : Form Part → Form Part → Reads → Reading → Reading → List (List ℕ) → List (List ℕ) → Type 0
+IsReadSoFar form member R r s old new = reader.IsReadSoFar line table form member R r s old new
 
--- whatever is expected behind these forms, if only it can't begin with one of these sorts: a reader that expects the
--- forms, one behind the other, passes these tokens up to the rest
-abbrev pub Passes : List (Form Part) → List Sort → List Token → List Token → Type 0
-Passes forms sorts tokens rest =
-    (behind : List (Form Part)) → Refuse table behind sorts → Leads line (forms ++ behind) tokens behind rest
+abbrev pub Ends : Form Part → Reading → TextEnd → Type 0
+Ends form r end = reader.Ends line table form r end
 
--- it stops so
-abbrev pub Ends : List (Form Part) → List Sort → List Token → Halt → Type 0
-Ends forms sorts tokens (Syntax left) =
-    (behind : List (Form Part)) → Refuse table behind sorts → Stops line (forms ++ behind) tokens left
-Ends forms sorts tokens Memory = Unit {0}
+-- the node mark with this number was passed
+pub record PassesMark (number : ℕ) (r s : Reading) : Type 0 where
+  pub token : Token
+  pub passed : IsPassed token r s
+  pub is : token.kind ≡ Node number
 
--- what a reader leaves: what it read, in these names and in all that keep them, and what is left for the next one
-pub record IsRead (forms : List (Form Part)) (sorts : List Sort) (Reads : List (List ℕ) → Type 0) (text : List ℕ)
-    (tokens rest : List Token) (old new : List (List ℕ)) : Type 0 where
-  pub reads : (later : List (List ℕ)) → KeepsNames new later → Reads later
-  pub passes : Passes forms sorts tokens rest
-  pub readable : Readable text rest
-  pub names : NamesGrowUpTo text tokens rest old new
-  pub room : length new + length rest ≤ length old + length tokens
-  pub no_longer : length rest ≤ length tokens
+-- trees with a sign between two, and what may stand in parentheses behind a label
+abbrev pub plains_with : Sort → Form Part
+plains_with sign = part plain · repeated (one sign · part plain)
 
--- the forms of trees with a sign between two
-abbrev pub plains_with : Sort → List (Form Part)
-plains_with sign = part plain ∷ repeated (one sign · part plain) ∷ []
-
--- what may stand in parentheses behind a label
 abbrev pub in_parentheses : Form Part
-in_parentheses = optional (one opening · optional (part plain · repeated (one comma · part plain)) · one closing)
+in_parentheses = optional (one opening · optional (plains_with comma) · one closing)
 
--- the next token is a node mark
-abbrev pub NextIsMark : List Token → Type 0
-NextIsMark tokens = (t : Token) × (rest : List Token) × (tokens ≡ t ∷ rest) × IsOf a_node_mark t
+-- chains, one behind the other
+abbrev pub some_chains : Form Part
+some_chains = part chain · repeated (part chain)
+
+pub data AMark (number : ℕ) (names : List (List ℕ)) (text : List ℕ) : List Token → List Token → Type 0 where
+  a_mark : {t : Token} {rest : List Token} → t.kind ≡ Node number → AMark number names text (t ∷ rest) rest
+
+-- What is read from the tokens of each part, as a relation of tokens.
+abbrev pub APlain : Tree → Reads
+APlain tree names text ts rest = ReadsPlain names text ts tree rest
+
+abbrev pub Subtrees : Forest → Reads
+Subtrees kids names text ts rest = ReadsSubtrees names text ts kids rest
+
+abbrev pub Plains : Forest → Reads
+Plains kids names text ts rest = ReadsPlains names text ts kids rest
+
+abbrev pub ARooted : Tree → ℕ → Reads
+ARooted tree byte names text ts rest = ReadsRooted names text ts tree byte rest
+
+abbrev pub Trees : List Tree → List ℕ → Reads
+Trees trees at names text ts rest = ReadsTrees names text ts trees at rest
+
+abbrev pub AChain : WrittenChain → Reads
+AChain c names text ts rest = ReadsChain names text ts c rest
+
+abbrev pub Chains : List WrittenChain → Reads
+Chains chains names text ts rest = ReadsChains names text ts chains rest
+
+abbrev pub AGraph : List WrittenChain → Reads
+AGraph chains names text ts rest = ReadsGraph names text ts chains rest

@@ -1,5 +1,5 @@
 -- The names that a reader leaves in front of the tokens that are left.
-use Rattle.std.specs.Prelude.{◌≡◌, ℕ, List, [], ◌++◌}
+use Rattle.std.specs.Prelude.{◌≡◌, ℕ, List, ◌++◌}
 use Rattle.qs_lex.specs.declared.token.Token.{Token}
 use Rattle.qs_reader.specs.Names.{NamesGrow}
 

@@ -1,21 +1,24 @@
 -- What readers promise: which form they take, what they read, and where they stop.
-use Rattle.std.specs.Prelude.{◌≡◌, ℕ, ◌+◌, ◌≤◌, Bool, true, false, List, [], ◌∷◌, ◌++◌, length, drop, Some, slice_get}
+use Rattle.std.specs.Prelude.{◌≡◌, ℕ, ◌+◌, ◌≤◌, Bool, true, false, List, ◌∷◌, length, drop}
 use Rattle.qs_lex.specs.declared.token.Token.{Token}
 use Rattle.qs_lex.specs.Grammar.{Sort, sort_of, IsOf, Form, one, part, ◌·◌, ◌∣◌, optional, repeated, Grammar, IsWhole}
-use Rattle.qs_lex.specs.Grammar.{Begins}
 use Rattle.qs_lex.specs.Expecting.{NextIsNo}
-use Rattle.qs_lex.specs.working.Expecting.{nullable, first, Stops}
+use Rattle.qs_lex.specs.working.Expecting.{nullable, first, Leads, Stops}
 use Rattle.qs_tree.specs.declared.cell.Label.{Label}
 use Rattle.qs_reader.specs.declared.text_end.TextEnd.{TextEnd}
 use Rattle.qs_reader.specs.declared.text_end.TextEnd.TheVariants.{Syntax, Memory}
 use Rattle.qs_reader.specs.Names.{IsLabelOf, KeepsNames}
 use Rattle.qs_reader.specs.working.Names.{NamesGrowUpTo}
-use Rattle.qs_reader.specs.Readers.{Reading, rest_of, GoesOn, between}
+use Rattle.qs_reader.specs.Readers.{Reading, rest_of, GoesOn}
 
 -- The tokens before the rest are the form, whole, and nothing that may be left out or repeated was left out where the
 -- next token begins it. A table says with which sorts a part may begin.
 pub data IsTaken {Part : Type 0} (line : Grammar Part) (table : Part → Sort → Bool)
     : Form Part → List Token → List Token → Type 0 where
+  -- whatever is expected behind the form
+  takes_known : {form : Form Part} {ts rest : List Token}
+      → IsWhole line form ts rest → ((behind : List (Form Part)) → Leads line (form ∷ behind) ts behind rest)
+      → IsTaken line table form ts rest
   takes_token : {sort : Sort} {t : Token} {rest : List Token}
       → IsOf sort t → IsTaken line table (one sort) (t ∷ rest) rest
   takes_part : {name : Part} {ts rest : List Token}
@@ -131,13 +134,3 @@ pub data Nothing (names : List (List ℕ)) (text : List ℕ) : List Token → Li
 
 pub data Then (R S : Reads) (names : List (List ℕ)) (text : List ℕ) : List Token → List Token → Type 0 where
   then : {ts middle rest : List Token} → R names text ts middle → S names text middle rest → Then R S names text ts rest
-
--- The tokens from `from` on, before `at`, begin the form and aren't it whole, and with the token at `at`, where there
--- is one, they don't begin it.
-pub record CannotGoOn {Part : Type 0} (line : Grammar Part) (form : Form Part)
-    (tokens : List Token) (from at : ℕ) : Type 0 where
-  pub forward : from ≤ at
-  pub within : at ≤ length tokens
-  pub begins : Begins line form (between tokens from at)
-  pub not_whole : IsWhole line form (between tokens from at) [] → ⊥
-  pub no_further : (t : Token) → slice_get tokens at ≡ Some t → Begins line form (between tokens from at ++ t ∷ []) → ⊥

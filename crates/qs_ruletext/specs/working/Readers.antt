@@ -1,6 +1,8 @@
 -- What the private functions of the reader of rules promise.
 use Rattle.std.specs.Prelude.{◌≡◌, ℕ, ◌⊎◌, Bool, true, false, ◌||◌, List, ◌∷◌, Option}
 use Rattle.qs_lex.specs.declared.token.Token.{Token}
+use Rattle.qs_lex.specs.declared.token.Kind.{Kind}
+use Rattle.qs_lex.specs.declared.token.Kind.TheVariants.{Variable}
 use Rattle.qs_lex.specs.declared.token.Word.TheVariants.{Dans, Hors, Egal, Non}
 use Rattle.qs_lex.specs.Grammar.{Sort, a_label, a_label_variable, a_tree_variable, a_forest_variable, the_word, opening}
 use Rattle.qs_lex.specs.Grammar.{closing, slash, sort_of, Form, one, part, ◌·◌, ◌∣◌, optional}
@@ -9,6 +11,7 @@ use Rattle.qs_pattern.specs.declared.variable.Var.{Var}
 use Rattle.qs_pattern.specs.declared.variable.VarClass.{VarClass}
 use Rattle.qs_pattern.specs.declared.variable.VarClass.TheVariants as class
 use Rattle.qs_pattern.specs.declared.pattern.Head.{Head}
+use Rattle.qs_pattern.specs.Letters.{IsVariable}
 use Rattle.qs_pattern.specs.Patterns.{Patterns}
 use Rattle.qs_pattern.specs.Conditions.{Condition}
 use Rattle.qs_reader.specs.declared.text_end.TextEnd.{TextEnd}
@@ -20,7 +23,13 @@ use Rattle.qs_ruletext.specs.Reading.{IsVariableOf, IsHeadOf, ReadsTree, ReadsSu
 use Rattle.qs_ruletext.specs.Reading.{ReadsCond, ReadsConj, ReadsNeg, ReadsPrim}
 use Rattle.qs_ruletext.specs.WrittenRules.{WrittenRule}
 use Rattle.qs_ruletext.specs.Rules.{ReadsCondIfGiven, ReadsWrittenRule}
-use Rattle.qs_ruletext.specs.Readers.{begins_tree, begins_item}
+
+-- which sorts the parts may begin with
+abbrev pub begins_tree : Sort → Bool
+begins_tree k = (same_sort a_label k || same_sort a_label_variable k) || same_sort a_tree_variable k
+
+abbrev pub begins_item : Sort → Bool
+begins_item k = begins_tree k || same_sort a_forest_variable k
 
 abbrev pub begins_prim : Sort → Bool
 begins_prim k = same_sort opening k || begins_item k
@@ -48,6 +57,11 @@ IsReadSoFar form member R r s old new = reader.IsReadSoFar line table form membe
 
 abbrev pub Ends : Form Part → Reading → TextEnd → Type 0
 Ends form r end = reader.Ends line table form r end
+
+-- a variable of such a letter and such a number is one
+abbrev pub IsGood : Kind → Type 0
+IsGood (Variable letter number) = IsVariable letter number
+IsGood _ = Unit {0}
 
 -- a variable of some class
 abbrev pub is_variable : Sort → Bool

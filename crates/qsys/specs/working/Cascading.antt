@@ -46,13 +46,13 @@ pub record DeliversDefined (job : Job) (bytes : List ℕ) (old new : Option (Lis
 abbrev pub IsAnswered : Job → List ℕ → Option (List ℕ) → Option (List ℕ) → Status → Type 0
 IsAnswered job bytes old new answer = ((answer ≡ Memory) × (new ≡ old)) ⊎ DeliversDefined job bytes old new answer
 
--- A valid graph on which so many grammars can still be run: its labels are named, and there is room for 1,600,000 arcs
--- and nodes more for each of the grammars, which is 16 for each firing of the greatest limit.
+-- A valid graph on which so many grammars can still be run: its labels are named, and there is room for 16,000,000
+-- arcs and nodes more for each of the grammars, which is 16 for each firing of the greatest limit.
 pub record CanGoOn (names : List (List ℕ)) (graph : QGraph) (grammars : ℕ) : Type 0 where
   pub valid : IsValid graph
   pub named : AreArcsNamed (length names) graph.arcs
-  pub arcs : length graph.arcs + 1600000 * grammars ≤ 410000000
-  pub nodes : graph.nodes + 1600000 * grammars ≤ 410000000
+  pub arcs : length graph.arcs + 16000000 * grammars ≤ 4200000000
+  pub nodes : graph.nodes + 16000000 * grammars ≤ 4200000000
 
 -- Some grammars of a cascade from a graph have been run and have left the graph `now`; their blocks were written. The
 -- others go on with that graph: what they leave is what is left to write.

@@ -1,10 +1,9 @@
-use Rattle.qs_deck.specs.Answers.{end_of_tokens}
 use Rattle.qs_deck.specs.Refusals.{EndsFor}
-use Rattle.qs_deck.proofs.Tables.{hands_on}
+use Rattle.qs_reader.proofs.Steps.{hands_on}
 use Rattle.qs_deck.proofs.Meanings.{tokens_end}
 use Rattle.qs_deck.proofs.decks.deck_of_text.Goals as goal
 
 pub returns-in_err-tokens-clause-end : goal.returns-in_err-tokens-clause-end
 returns-in_err-tokens-clause-end c =
-    hands_on c.from_residual.result (end_of_tokens c.in_err-tokens.field-0.0) (EndsFor c.args.text.now) c.from_residual.ensures.1
+    hands_on c.from_residual.result (EndsFor c.args.text.now) c.from_residual.ensures.1
     (tokens_end c.args.text.now c.requires.utf8 c.in_err-tokens.field-0.0 c.in_err-tokens.ensures.end)

@@ -1,5 +1,9 @@
-use Rattle.std.proofs.Common.{ap, length, arith}
+use Rattle.std.proofs.Common.{◌≡◌, List, false, ap, sym, subst, refl, length, arith}
+use Rattle.std.specs.List.{range_with_len}
 use Rattle.std.proofs.lemmas.List.FromFn.{length-map-range_with_len}
+use Rattle.qs_tree.proofs.Members.{from_map}
+use Rattle.qs_pattern.specs.Rules.{Rule}
+use Rattle.qs_deck.specs.Marks.{HaveMark}
 use Rattle.qs_deck.specs.MadeDecks.{level_rule}
 use Rattle.qs_deck.proofs.MadeLemmas.{rules_next}
 use Rattle.qs_deck.proofs.made_decks.made_grammar.Goals as goal
@@ -11,4 +15,5 @@ loop-level-preserved c =
 pub invariant_of-result : goal.invariant_of-result
 invariant_of-result c = record {
   few = omega (arith, ap length c.loop-level.invariant, length-map-range_with_len level_rule 0 c.loop-level.level, c.requires, c.loop-level.auto.level-end);
+  marked = subst (HaveMark false) (sym c.loop-level.invariant) (from_map level_rule (range_with_len 0 c.loop-level.level) (λ (rule : Rule). rule.unique ≡ false) (λ level i. refl));
 }

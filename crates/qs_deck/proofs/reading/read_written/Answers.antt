@@ -1,44 +1,31 @@
-use Rattle.std.proofs.Common.{refl, drop, arith}
-use Rattle.qs_deck.specs.working.Syntax.{EndsAt}
-use Rattle.qs_deck.proofs.Tables.{hands_on}
-use Rattle.qs_deck.proofs.Places.{ends_at, chains_end, ends_behind_graph, cannot_go_on, whole_deck}
-use Rattle.qs_deck.proofs.Naming.{all_names}
-use Rattle.qs_deck.proofs.Told.{told_systems, named_systems}
+use Rattle.std.proofs.Common.{ap, ◌∙◌, subst}
+use Rattle.qs_reader.proofs.Steps.{hands_on}
+use Rattle.qs_reader.specs.Readers.{Reading}
+use Rattle.qs_deck.specs.working.Versions.{IsReadAs, EndsAt}
+use Rattle.qs_deck.proofs.VersionSteps.{ends_behind_line, ends_behind_deck, deck_read}
+use Rattle.qs_deck.proofs.Steps.{shallow_on}
 use Rattle.qs_deck.proofs.reading.read_written.Goals as goal
 
-pub returns-in_err-systems-clause-ends : goal.returns-in_err-systems-clause-ends
-returns-in_err-systems-clause-ends c =
-    hands_on c.from_residual.result c.in_err-systems.field-0.0 (EndsAt c.args.tokens.now) c.from_residual.ensures.1
-    (ends_at c.args.tokens.now c.in_err-systems.field-0.0 c.in_err-systems.ensures.ends)
+pub deck-requires-clause-shallow : goal.deck-requires-clause-shallow
+deck-requires-clause-shallow c = shallow_on (c.in_ok-version.ensures.passes.goes_on.tokens ∙ ap (λ r. r.tokens) c.new-reader.ensures) c.requires.shallow
 
-pub returns-in_err-chains-clause-ends : goal.returns-in_err-chains-clause-ends
-returns-in_err-chains-clause-ends c =
-    hands_on c.from_residual-in_err-chains.result c.in_err-chains.field-0.0 (EndsAt c.args.tokens.now) c.from_residual-in_err-chains.ensures.1
-    (chains_end c.args.text.now c.args.tokens.now c.in_ok-systems.from c.in_err-chains.field-0.0 c.in_ok-systems.systems.items c.args.names.now c.systems.new.names
-    c.in_ok-systems.ensures.read c.in_ok-systems.ensures.last c.in_err-chains.ensures.ends)
+pub returns-in_err-version-clause-ends : goal.returns-in_err-version-clause-ends
+returns-in_err-version-clause-ends c =
+    hands_on c.from_residual.result (EndsAt c.args.text.now c.args.tokens.now) c.from_residual.ensures.1
+    (subst (λ (r : Reading). EndsAt r.text r.tokens c.in_err-version.field-0.0) c.new-reader.ensures c.in_err-version.ensures.ends)
 
-pub returns-then-end-tokens-clause-ends : goal.returns-then-end-tokens-clause-ends
-returns-then-end-tokens-clause-ends c =
-    cannot_go_on c.args.tokens.now c.in_ok-chains.end
-    (ends_behind_graph c.args.text.now c.args.tokens.now c.in_ok-systems.from c.in_ok-chains.end c.in_ok-systems.systems.items c.in_ok-chains.chains.items c.args.names.now c.systems.new.names c.read_chains.new.names
-    c.in_ok-systems.ensures.read c.in_ok-systems.ensures.last c.in_ok-chains.ensures.read (omega (arith, c.if-end-tokens.true)))
+pub returns-in_err-deck-clause-ends : goal.returns-in_err-deck-clause-ends
+returns-in_err-deck-clause-ends c =
+    hands_on c.from_residual-in_err-deck.result (EndsAt c.args.text.now c.args.tokens.now) c.from_residual-in_err-deck.ensures.1
+    (subst (λ (r : Reading). EndsAt r.text r.tokens c.in_err-deck.field-0.0) c.new-reader.ensures
+    (ends_behind_line (ap (λ r. r.place) c.new-reader.ensures) c.in_ok-version.ensures.passes c.in_err-deck.ensures.ends))
+
+pub returns-in-Some-clause-ends : goal.returns-in-Some-clause-ends
+returns-in-Some-clause-ends c =
+    subst (λ (r : Reading). EndsAt r.text r.tokens c.fault.result) c.new-reader.ensures
+    (ends_behind_deck (ap (λ r. r.place) c.new-reader.ensures) c.in_ok-version.ensures.passes c.in_ok-deck.ensures.read c.in-Some.ensures.some c.fault.ensures.place)
 
 pub returns-clause-read : goal.returns-clause-read
 returns-clause-read c =
-    whole_deck c.args.text.now c.args.tokens.now c.in_ok-systems.from c.in_ok-chains.end _ c.args.names.now c.systems.new.names c.read_chains.new.names _
-    c.in_ok-systems.ensures.read c.read_chains.ensures.keeps c.in_ok-chains.ensures.read (omega (arith, c.if-end-tokens.false)) refl
-
-pub returns-clause-made : goal.returns-clause-made
-returns-clause-made c =
-    told_systems c.read_chains.new.names c.args.text.now c.args.tokens.now (drop c.in_ok-systems.from c.args.tokens.now) c.in_ok-systems.systems.items
-    (c.in_ok-systems.ensures.read.reads c.read_chains.new.names c.read_chains.ensures.keeps)
-
-pub returns-clause-systems_named : goal.returns-clause-systems_named
-returns-clause-systems_named c =
-    named_systems c.read_chains.new.names c.args.text.now c.args.tokens.now (drop c.in_ok-systems.from c.args.tokens.now) c.in_ok-systems.systems.items
-    (c.in_ok-systems.ensures.read.reads c.read_chains.new.names c.read_chains.ensures.keeps)
-
-pub returns-clause-names : goal.returns-clause-names
-returns-clause-names c =
-    all_names c.args.text.now c.args.tokens.now c.in_ok-systems.from c.in_ok-chains.end c.args.names.now c.systems.new.names c.read_chains.new.names
-    (omega (arith, c.in_ok-chains.ensures.behind.0)) (omega (arith, c.if-end-tokens.false)) c.in_ok-systems.ensures.read.names c.in_ok-chains.ensures.names
+    subst (λ (r : Reading). IsReadAs r.text r.tokens c.in_ok-version.version c.in_ok-deck.deck c.args.names.now c.deck.new.names) c.new-reader.ensures
+    (deck_read (ap (λ r. r.place) c.new-reader.ensures) c.in_ok-version.ensures.passes c.in_ok-deck.ensures.read c.in_default.ensures.none)

@@ -1,34 +1,44 @@
-use Rattle.std.proofs.Common.{◌∷◌, refl}
-use Rattle.qs_lex.specs.Grammar.{part}
+use Rattle.std.proofs.Common.{◌∙◌}
+use Rattle.qs_lex.specs.declared.token.Word.TheVariants.{Systeme}
+use Rattle.qs_lex.specs.Grammar.{the_word, part}
+use Rattle.qs_reader.proofs.Steps.{hands_on}
 use Rattle.qs_deck.specs.Grammar.{system}
-use Rattle.qs_deck.specs.working.Readers.{EndsIn, behind_system}
-use Rattle.qs_deck.proofs.Tables.{hands_on}
-use Rattle.qs_deck.proofs.Steps.{name_of_text, heading_within, rules_end}
-use Rattle.qs_deck.proofs.Systems.{one_system}
+use Rattle.qs_deck.specs.working.Readers.{Ends}
+use Rattle.qs_deck.proofs.Steps.{shallow_on, ends_at_word, ends_at_name, ends_at_dot, ends_in_rules, mark_read, read_system}
 use Rattle.qs_deck.proofs.reading.system.Goals as goal
 
-pub label_of-requires-clause-of_text : goal.label_of-requires-clause-of_text
-label_of-requires-clause-of_text c =
-    name_of_text c.args.text.now c.args.tokens.now c.args.from c.in_ok-word.word.now c.in_ok-word.label.now c.requires.of_text c.in_ok-word.ensures.heading
+pub rules-requires-clause-shallow : goal.rules-requires-clause-shallow
+rules-requires-clause-shallow c =
+    shallow_on (c.in_ok-expect-2.ensures.ok.passed.goes_on.tokens ∙ (mark_read c.args.names.now c.pass-unique.result c.pass-unique.ensures.yes c.pass-unique.ensures.no).goes_on.tokens ∙ c.in_ok-name.ensures.names.passed.goes_on.tokens ∙ c.in_ok-expect.ensures.ok.passed.goes_on.tokens) c.requires.shallow
 
-pub read_rules-requires-clause-within : goal.read_rules-requires-clause-within
-read_rules-requires-clause-within c =
-    heading_within c.args.tokens.now c.args.from c.in_ok-word.word.now c.in_ok-word.label.now c.requires.within c.in_ok-word.ensures.heading
+pub returns-clause-keeps : goal.returns-clause-keeps
+returns-clause-keeps c = λ k text e. c.rules.ensures.keeps k text (c.label.ensures.keeps k text e)
+
+pub returns-in_err-word-clause-ends : goal.returns-in_err-word-clause-ends
+returns-in_err-word-clause-ends c =
+    hands_on c.from_residual.result (Ends (part system) c.args.reader.now) c.from_residual.ensures.1 (ends_at_word (c.in_err-word.ensures.ends (the_word Systeme)))
+
+pub returns-in_err-expect-clause-ends : goal.returns-in_err-expect-clause-ends
+returns-in_err-expect-clause-ends c =
+    hands_on c.from_residual-in_err-expect.result (Ends (part system) c.args.reader.now) c.from_residual-in_err-expect.ensures.1 (ends_at_word c.in_err-expect.ensures.ends)
+
+pub returns-in_err-name-clause-ends : goal.returns-in_err-name-clause-ends
+returns-in_err-name-clause-ends c =
+    hands_on c.from_residual-in_err-name.result (Ends (part system) c.args.reader.now) c.from_residual-in_err-name.ensures.1
+    (ends_at_name c.args.names.now c.in_ok-expect.ensures.ok c.in_err-name.ensures.ends)
+
+pub returns-in_err-expect-2-clause-ends : goal.returns-in_err-expect-2-clause-ends
+returns-in_err-expect-2-clause-ends c =
+    hands_on c.from_residual-in_err-expect-2.result (Ends (part system) c.args.reader.now) c.from_residual-in_err-expect-2.ensures.1
+    (ends_at_dot c.in_ok-expect.ensures.ok c.in_ok-name.ensures.names (mark_read _ c.pass-unique.result c.pass-unique.ensures.yes c.pass-unique.ensures.no) c.in_err-expect-2.ensures.ends)
 
 pub returns-in_err-rules-clause-ends : goal.returns-in_err-rules-clause-ends
 returns-in_err-rules-clause-ends c =
-    hands_on c.from_residual-in_err-rules.result c.in_err-rules.field-0.0 (EndsIn (part system ∷ behind_system) c.args.tokens.now c.args.from) c.from_residual-in_err-rules.ensures.1
-    (rules_end c.args.tokens.now c.args.from c.in_ok-word.word.now c.in_ok-word.label.now c.in_err-rules.field-0.0 c.in_ok-word.ensures.heading c.in_err-rules.ensures.ends)
-
-pub returns-clause-keeps : goal.returns-clause-keeps
-returns-clause-keeps c = λ k text e. c.read_rules.ensures.keeps k text (c.label_of.ensures.keeps k text e)
+    hands_on c.from_residual-in_err-rules.result (Ends (part system) c.args.reader.now) c.from_residual-in_err-rules.ensures.1
+    (ends_in_rules c.in_ok-expect.ensures.ok c.in_ok-name.ensures.names (mark_read _ c.pass-unique.result c.pass-unique.ensures.yes c.pass-unique.ensures.no) c.in_ok-expect-2.ensures.ok c.in_err-rules.ensures.ends)
 
 pub returns-clause-read : goal.returns-clause-read
-returns-clause-read c =
-    one_system c.args.text.now c.args.tokens.now c.args.from c.in_ok-rules.end c.in_ok-word.word.now c.in_ok-word.label.now _ c.args.names.now c.label_of.new.names c.read_rules.new.names
-    c.requires.within c.in_ok-word.ensures.heading refl c.in_ok-name.ensures.label c.in_ok-name.ensures.few
-    c.read_rules.ensures.keeps c.in_ok-rules.ensures.read c.in_ok-rules.ensures.place c.in_ok-rules.ensures.behind c.in_ok-rules.ensures.few
-    c.in_ok-name.ensures.adds c.in_ok-rules.ensures.names
+returns-clause-read c = read_system c.in_ok-word.ensures.next c.in_ok-expect.ensures.ok c.in_ok-name.ensures.names (mark_read _ c.pass-unique.result c.pass-unique.ensures.yes c.pass-unique.ensures.no) c.in_ok-expect-2.ensures.ok c.in_ok-rules.ensures.read
 
 pub returns-in_err-rules-clause-keeps : goal.returns-in_err-rules-clause-keeps
-returns-in_err-rules-clause-keeps c = λ k text there. c.read_rules.ensures.keeps k text (c.label_of.ensures.keeps k text there)
+returns-in_err-rules-clause-keeps c = λ k text e. c.rules.ensures.keeps k text (c.label.ensures.keeps k text e)

@@ -5,11 +5,11 @@ use Rattle.qs_graphtext.proofs.plain.tree.Goals as goal
 
 pub invariant_of-of : goal.invariant_of-of
 invariant_of-of c =
-    let (tree, put, found) = c.in_ok-rest.ensures.read in
+    let (tree, put, found) = c.in_ok-plain.ensures.read in
     record { one_tree = whole_tree c.deref.result.now tree (from_nothing c.new-cells.result.items c.plain.new.cells.items c.deref.result.now tree c.new-cells.ensures.items put c.deref.ensures.value) }
 
 pub returns-clause-read : goal.returns-clause-read
 returns-clause-read c =
-    let (tree, put, found) = c.in_ok-rest.ensures.read in
+    let (tree, put, found) = c.in_ok-plain.ensures.read in
     let are = from_nothing c.new-cells.result.items c.plain.new.cells.items c.deref.result.now tree c.new-cells.ensures.items put c.deref.ensures.value in
-    same_tree c.args.text.now c.args.names.now c.plain.new.names c.args.tokens.now c.in_ok-rest.rest.now tree c.in_ok-tree.tree (c.in_ok-tree.ensures ∙ tree_is c.deref.result.now tree are) found
+    same_tree (c.in_ok-tree.ensures ∙ tree_is c.deref.result.now tree are) found

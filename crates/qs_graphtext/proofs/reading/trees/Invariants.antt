@@ -1,18 +1,13 @@
-use Rattle.std.proofs.Common.{ℕ, ◌++◌, [], ◌∷◌, List, length}
-use Rattle.qs_lex.specs.declared.token.Token.{Token}
-use Rattle.qs_lex.specs.Grammar.{opening, plus, one, part, ◌·◌}
-use Rattle.qs_tree.specs.Trees.{Tree}
+use Rattle.std.proofs.Common.{length}
+use Rattle.qs_lex.specs.Grammar.{plus, one, part, ◌·◌}
+use Rattle.qs_reader.specs.Readers.{rest_of}
 use Rattle.qs_graphtext.specs.Grammar.{plain}
-use Rattle.qs_graphtext.specs.Reading.{ReadsTrees, ReadsMoreTrees}
-use Rattle.qs_graphtext.specs.working.Readers.{plains_with}
-use Rattle.qs_graphtext.proofs.Repeating.{Repeats}
+use Rattle.qs_graphtext.specs.working.Readers.{IsReadSoFar, plains_with}
+use Rattle.qs_graphtext.proofs.ChainSteps.{CompletesTrees}
 use Rattle.qs_graphtext.proofs.reading.trees.Given as goal
 
-abbrev pub invariant-loop-after : goal.invariant-loop-after
-invariant-loop-after l =
-    Repeats (plains_with plus) (one plus · part plain) (plus ∷ opening ∷ [])
-    (λ later. (behind : List Tree) (bytes : List ℕ) (end : List Token) → ReadsMoreTrees later l.text l.rest behind bytes end → ReadsTrees later l.text l.tokens (l.trees.items ++ behind) (l.at.items ++ bytes) end)
-    l.text l.tokens l.rest l.fn.names l.names
+abbrev pub invariant-loop-reader : goal.invariant-loop-reader
+invariant-loop-reader l = IsReadSoFar (plains_with plus) (one plus · part plain) (CompletesTrees l.trees.items l.at.items) l.fn.reader l.reader l.fn.names l.names
 
-abbrev pub decreases-loop-after : goal.decreases-loop-after
-decreases-loop-after l = length l.rest
+abbrev pub decreases-loop-reader : goal.decreases-loop-reader
+decreases-loop-reader l = length (rest_of l.reader)

@@ -1,5 +1,5 @@
-use Rattle.qs_ruletext.proofs.Naming.{one_growth, grow_distinct, grow_on, grow_apart}
-use Rattle.qs_ruletext.proofs.KnownTokens.{all_readable, names_grow}
+use Rattle.qs_reader.proofs.Naming.{one_growth, grow_distinct, grow_on, grow_apart}
+use Rattle.qs_ruletext.proofs.KnownTokens.{names_grow}
 use Rattle.qs_ruletext.proofs.laws.names_grow_to_one.Goals as goal
 
 pub returns-clause-one : goal.returns-clause-one
@@ -15,4 +15,4 @@ pub returns-clause-apart : goal.returns-clause-apart
 returns-clause-apart c = grow_apart
 
 pub returns-clause-some : goal.returns-clause-some
-returns-clause-some c = λ text ts old all. names_grow text ts old (all_readable text ts all)
+returns-clause-some c = names_grow

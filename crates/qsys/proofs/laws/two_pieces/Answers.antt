@@ -11,4 +11,4 @@ returns-clause-same c = λ p text ending all.
     c.one_outcome.ensures p.limit p.names p.graph (p.front ++ p.back) text (p.first ++ p.second) ending p.ending all (in_two_pieces p)
 
 pub returns-clause-decks : goal.returns-clause-decks
-returns-clause-decks c = λ text names graph front back deck. cut_deck deck
+returns-clause-decks c = λ text version names graph front back deck. cut_deck deck

@@ -1,5 +1,6 @@
 use Rattle.std.proofs.Common.{◌≡◌, ◌∙◌, None, arith, codes, sym}
 use Rattle.clap.specs.Matches.{first_value, found_of}
+use Rattle.qsys.specs.Limits.{most_limit, most_workers as most_of_workers, most_size as most_of_size}
 use Rattle.qsys.proofs.ReadWords.{job_by_word, job_read, no_job_read}
 use Rattle.qsys.proofs.words.job_in.Goals as goal
 
@@ -14,13 +15,13 @@ returns-in_err-command-clause-job c =
     ∙ sym (no_job_read (found_of c.args.matches.now) c.in_ok-get_str.field-0.now (sym c.in_ok-get_str.ensures) (sym c.in_err-command.ensures))
 
 pub number_in-requires : goal.number_in-requires
-number_in-requires c = record { least = 1; most = 100000; fits = omega arith; number = c.requires.limit }
+number_in-requires c = record { least = 1; most = most_limit; fits = omega arith; number = c.requires.limit }
 
 pub number_in-requires-2 : goal.number_in-requires-2
-number_in-requires-2 c = record { least = 1; most = 8; fits = omega arith; number = c.requires.workers }
+number_in-requires-2 c = record { least = 1; most = most_of_workers; fits = omega arith; number = c.requires.workers }
 
 pub number_in-requires-3 : goal.number_in-requires-3
-number_in-requires-3 c = record { least = 0; most = 13; fits = omega arith; number = c.requires.size }
+number_in-requires-3 c = record { least = 0; most = most_of_size; fits = omega arith; number = c.requires.size }
 
 pub returns-clause-job : goal.returns-clause-job
 returns-clause-job c =
@@ -29,9 +30,9 @@ returns-clause-job c =
 
 pub returns-clause-range : goal.returns-clause-range
 returns-clause-range c =
-    let limit = c.number_in.ensures.range 1 100000 (omega arith) c.requires.limit in
-    let workers = c.number_in-2.ensures.range 1 8 (omega arith) c.requires.workers in
-    let size = c.number_in-3.ensures.range 0 13 (omega arith) c.requires.size in
+    let limit = c.number_in.ensures.range 1 most_limit (omega arith) c.requires.limit in
+    let workers = c.number_in-2.ensures.range 1 most_of_workers (omega arith) c.requires.workers in
+    let size = c.number_in-3.ensures.range 0 most_of_size (omega arith) c.requires.size in
     record {
       limit = record { low = limit.0; high = limit.1 };
       least_workers = workers.0;

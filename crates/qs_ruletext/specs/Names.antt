@@ -1,2 +1,0 @@
--- What naming does stands with the reader.
-pub use Rattle.qs_reader.specs.Names.{AddsName, AddsNameOf, NamesGrow}

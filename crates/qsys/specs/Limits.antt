@@ -1,0 +1,14 @@
+-- The limits of jobs. The numbers are this project's own.
+use Rattle.std.specs.Prelude.{ℕ}
+
+-- the most firings that a grammar may be allowed
+abbrev pub most_limit : ℕ
+most_limit = 1000000
+
+-- the most workers
+abbrev pub most_workers : ℕ
+most_workers = 32
+
+-- the greatest size of a made deck
+abbrev pub most_size : ℕ
+most_size = 13
