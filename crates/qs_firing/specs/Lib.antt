@@ -1,3 +1,4 @@
 pub mod Firings
 pub mod Adding
+pub mod Work
 pub mod working

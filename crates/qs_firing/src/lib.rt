@@ -3,6 +3,7 @@
 
 mod deciding;
 mod firing;
+mod joined;
 mod key;
 pub mod laws;
 mod paths;
@@ -10,6 +11,7 @@ mod view;
 
 pub use deciding::fires;
 pub use firing::Firing;
+pub use joined::{Joined, Made};
 pub use key::order;
 pub use std::alloc::AllocError as Memory;
 pub use view::View;
