@@ -1,0 +1,12 @@
+//! The machine of steps in which seats claim arcs and do the firings that are their work.
+#![tactic(auto)]
+
+mod answers;
+mod fired;
+pub mod laws;
+mod step;
+
+pub use answers::{Claim, End, Put};
+pub use fired::Fired;
+pub use std::alloc::AllocError as Memory;
+pub use step::{Status, Step, Stop};
