@@ -2,8 +2,10 @@
 #![tactic(auto)]
 
 mod answers;
+mod arcs;
 mod fired;
 pub mod laws;
+mod statuses;
 mod step;
 
 pub use answers::{Claim, End, Put};

@@ -14,7 +14,8 @@ use Rattle.qs_core.specs.contracts.step.Step as step
 use Rattle.qs_core.specs.contracts.step.Stop as stop
 use Rattle.qs_core.specs.contracts.step.Status as status
 use Rattle.qs_core.specs.Core.{Base, Fired, CoreState}
-use Rattle.qs_core.specs.Runs.{Machine, MachineWithRoom}
+use Rattle.qs_core.specs.Runs.{MachineWithRoom}
+use Rattle.qs_core.specs.Machines.{StatusTable}
 
 abbrev pub base_code : Coded Base
 base_code =
@@ -40,3 +41,8 @@ machine_code =
     (coded× base_code (coded× (coded_list step.the_row.coded) (coded× core_code coded_ℕ)))
     (λ m. (m.machine.base, (m.machine.journal, (m.machine.state, m.room))))
     (λ p. record { machine = record { base = p.0; journal = p.1.0; state = p.1.1.0 }; room = p.1.1.1 }) (λ _. refl)
+
+abbrev pub table_code : Coded StatusTable
+table_code =
+    code_by (List Status × ℕ) (coded× (coded_list status.the_row.coded) coded_ℕ)
+    (λ t. (t.list, t.seats)) (λ p. record { list = p.0; seats = p.1 }) (λ _. refl)
