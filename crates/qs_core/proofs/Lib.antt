@@ -3,5 +3,9 @@ pub mod Twins
 pub mod Places
 pub mod Tables
 pub mod Least
+pub mod Ends
+pub mod Taken
+pub mod Marked
+pub mod Machines
 pub mod Keeping
 pub mod Runs

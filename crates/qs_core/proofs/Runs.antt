@@ -41,7 +41,7 @@ pub keeps : (B : Base) (journal : List Step) (last : Option Stop) (T : CoreState
 keeps B journal last T r = keeps_stop_if_given B r.going last T r.stop (keeps_steps B (opening B) journal r.going r.steps (keeps_opening B))
 
 -- a step changes only its own seat's claims
-status_of_rested : (i j k : ℕ) → (i ≡ j → ⊥) → (xs : List Status) (m : ℕ) → slice_get xs m ≡ Some (status.Claimed j k) → slice_get (map (rest_one i) xs) m ≡ Some (status.Claimed j k)
+pub status_of_rested : (i j k : ℕ) → (i ≡ j → ⊥) → (xs : List Status) (m : ℕ) → slice_get xs m ≡ Some (status.Claimed j k) → slice_get (map (rest_one i) xs) m ≡ Some (status.Claimed j k)
 status_of_rested i j k ne [] m e = absurd cc
 status_of_rested i j k ne (x ∷ xs) (suc m) e = status_of_rested i j k ne xs m e
 status_of_rested i j k ne (x ∷ xs) zero e = let d : x ≡ status.Claimed j k = cc in ap (λ y. Some (rest_one i y)) d ∙ tested (eqb j i) refl
@@ -147,7 +147,7 @@ pub done_fires : (B : Base) (S : CoreState) → Keeps B S → (f : Firing) → f
 done_fires B S K f i = let (m, w) = K.placed f i in fires_of_work B.rules w
 
 -- no step makes a stop
-no_stop_made : (B : Base) (S : CoreState) (v : Step) (T : CoreState) → Makes B S v T → T.stop ≡ None
+pub no_stop_made : (B : Base) (S : CoreState) (v : Step) (T : CoreState) → Makes B S v T → T.stop ≡ None
 no_stop_made B S (step.Claim i m) T (may, is) = ap (λ (X : CoreState). X.stop) is ∙ may.going
 no_stop_made B S (step.Rest i) T (may, is) = ap (λ (X : CoreState). X.stop) is ∙ may.going
 no_stop_made B S (step.Publish i) T (may, is) = ap (λ (X : CoreState). X.stop) is ∙ may.going

@@ -7,7 +7,7 @@ ghost use Rattle.qs_tree.specs.Cells.{tree_of};
 ghost use Rattle.qs_graph.specs.Chains.{chain};
 ghost use Rattle.qs_firing.specs.Adding.{least_arc};
 
-use qs_graph::{Edge, Graph};
+use qs_graph::Edge;
 use qs_tree::{Tree, TreeRef, same};
 use std::alloc::{AllocError, Global};
 use std::marker::Model;
@@ -43,20 +43,19 @@ impl Model for Arcs {
 }
 
 impl Arcs {
-    /// The nodes and the arcs of a graph, which own the same trees. No tree is copied.
-    pub fn of(alloc: Global, graph: &Graph) -> Result<Arcs, AllocError>
-        ensures { IfOk result (λ a. a ≡ graph.now) }
+    /// So many nodes, and arcs equal to these, which own the same trees. No tree is copied.
+    pub fn of(alloc: Global, nodes: u32, edges: &[Edge]) -> Result<Arcs, AllocError>
+        requires { length edges.now < 2 ^ 32 }
+        ensures { IfOk result (λ a. a ≡ record { nodes = nodes; arcs = edges.now }) }
     {
-        let edges = copies_of(alloc, graph.edges())?;
-        Ok(Arcs {
-            nodes: graph.nodes(),
-            edges,
-        })
+        let edges = copies_of(alloc, edges)?;
+        Ok(Arcs { nodes, edges })
     }
 
     /// The arcs in their order.
     pub fn edges(&self) -> &[Edge]
-        ensures { result.now ≡ self.now.arcs }
+        ensures value { result.now ≡ self.now.arcs }
+        ensures few { length result.now < 2 ^ 32 }
     {
         &self.edges
     }

@@ -55,6 +55,13 @@ impl Statuses {
         })
     }
 
+    /// The number of seats.
+    pub fn seats(&self) -> u32
+        ensures { result ≡ self.now.seats }
+    {
+        self.claims.len() as u32
+    }
+
     /// The status of this arc, where there is one.
     pub fn status(&self, arc: u32) -> Option<Status>
         ensures { result ≡ slice_get self.now.list arc }
