@@ -7,5 +7,8 @@ pub mod Ends
 pub mod Taken
 pub mod Marked
 pub mod Machines
+pub mod Counting
+pub mod Publishing
+pub mod Stopping
 pub mod Keeping
 pub mod Runs

@@ -1,7 +1,7 @@
 //! A graph that grows.
 
 ghost use Rattle.std.specs.Prelude.{◌≡◌, ◌<◌, ◌≤◌, ◌+◌, ◌^◌, ◌++◌, ◌↔◌, length, map, IsTrue, IfOk, OnOk, OnErr, Some};
-ghost use Rattle.std.specs.Prelude.{slice_get};
+ghost use Rattle.std.specs.Prelude.{slice_get, take, ◌-◌};
 ghost use Rattle.std.specs.Arc.{arc_value};
 ghost use Rattle.qs_tree.specs.Cells.{tree_of};
 ghost use Rattle.qs_graph.specs.Chains.{chain};
@@ -110,6 +110,19 @@ impl Arcs {
         self.edges.append(&mut edges)?;
         self.nodes += nodes;
         Ok(())
+    }
+
+    /// So many nodes and arcs less, the last ones. Takes no memory.
+    pub fn remove(&mut self, nodes: u32, arcs: u32)
+        requires nodes { nodes ≤ self.old.nodes }
+        requires arcs { arcs ≤ length self.old.arcs }
+        ensures { self.new ≡ record {
+          nodes = self.old.nodes - nodes;
+          arcs = take (length self.old.arcs - arcs) self.old.arcs;
+        } }
+    {
+        self.edges.truncate(self.edges.len() - arcs as usize);
+        self.nodes -= nodes;
     }
 }
 

@@ -1,18 +1,26 @@
 //! Steps of the machine.
 
 ghost use Rattle.std.specs.Prelude.{◌≡◌, ◌<◌, ◌≤◌, ◌↔◌, length, slice_get, None, Some, IsTrue, IfOk, OnOk};
-ghost use Rattle.std.specs.Prelude.{OnErr, if◌then◌else◌};
+ghost use Rattle.std.specs.Prelude.{OnErr, if◌then◌else◌, replicate, ◌+◌, ◌^◌, ◌++◌};
 ghost use Rattle.qs_firing.specs.Work.{IsRightFor};
 ghost use Rattle.qs_core.specs.declared.step.Step.TheVariants as step;
 ghost use Rattle.qs_core.specs.declared.step.Status.TheVariants as status;
 ghost use Rattle.qs_core.specs.Core.{IsFree, HasClaim, NoneWaits, after_claim, after_rest};
 ghost use Rattle.qs_core.specs.Runs.{with_step};
-ghost use Rattle.qs_core.specs.Answers.{IsClaimed, IsHalted, HasAnyClaim, RestsIfClaimed};
+ghost use Rattle.qs_core.specs.declared.answers.Put.TheVariants as put;
+ghost use Rattle.qs_core.specs.Answers.{IsClaimed, IsPublished, IsHalted, HasAnyClaim, RestsIfClaimed};
 
-use crate::answers::{Claim, End};
+use crate::adding::added_by;
+use crate::answers::{Claim, End, Put};
+use crate::arcs::Arcs;
+use crate::fired::Fired;
 use crate::state::State;
+use crate::statuses::Statuses;
 use crate::step::{Status, Step, Stop};
+use qs_firing::Joined;
+use qs_graph::Edge;
 use std::alloc::AllocError;
+use std::sync::Arc;
 
 impl State {
     /// Makes the next claim ready. Nothing else changes, also after `Memory`. No other call promises that a claim is
@@ -103,6 +111,62 @@ impl State {
         }
     }
 
+    /// Publishes the next firing of the seat's claim. Where no stop stands, the seat has claimed the arc of this work,
+    /// with its first `k` firings done, there are more of them, and the work is right for the rules and the arcs.
+    ///
+    /// `Ended` exactly where a stop stands, as it says; then nothing changes. Else it is `Over` exactly where the
+    /// limit's firings are done; then the stop becomes `Over` of this seat. Else it is `Published`: the `k`-th firing,
+    /// from 0, is done, what it adds is added, the arcs that are added wait, the claim has one firing more done, and the
+    /// step is `Publish`; the number is that of the first arc of the firing's result. After `Memory` nothing has
+    /// changed.
+    pub fn publish(&mut self, seat: u32, work: &Joined, k: u32) -> Result<Put, AllocError>
+        requires claim { self.old.machine.state.stop ≡ None → HasClaim self.old.machine.state seat work.now.arc k }
+        requires more { self.old.machine.state.stop ≡ None → k < length work.now.made }
+        requires right { self.old.machine.state.stop ≡ None
+            → IsRightFor self.old.machine.base.rules self.old.machine.state.graph.arcs work.now }
+        ensures answer { IfOk result (λ put. IsPublished self.old.machine seat work.now k put self.new.machine) }
+        ensures err { OnErr result (self.new.machine ≡ self.old.machine) }
+    {
+        if let Some(stop) = self.stop {
+            return Ok(Put::Ended(stop.end()));
+        }
+        if self.fired.len() >= self.limit as usize {
+            self.stop = Some(Stop::Over { seat });
+            return Ok(Put::Over);
+        }
+        let first = self.add_firing(seat, work, k)?;
+        Ok(Put::Published(first))
+    }
+
+    // Does the k-th firing of this work, which is that of the arc that the seat has claimed. The first arc of its
+    // result.
+    fn add_firing(&mut self, seat: u32, work: &Joined, k: u32) -> Result<u32, AllocError>
+        requires going { self.old.machine.state.stop ≡ None }
+        requires few { length self.old.machine.state.done < self.old.machine.base.limit }
+        requires claim { HasClaim self.old.machine.state seat work.now.arc k }
+        requires more { k < length work.now.made }
+        requires right { IsRightFor self.old.machine.base.rules self.old.machine.state.graph.arcs work.now }
+        ensures ok { IfOk result (λ first.
+            IsPublished self.old.machine seat work.now k (put.Published first) self.new.machine) }
+        ensures err { OnErr result (self.new.machine ≡ self.old.machine) }
+    {
+        let made = &work.made()[k as usize];
+        let added = added_by(self.alloc, self.unique, &self.arcs, made)?;
+        let first = added.first;
+        let fired = Fired {
+            firing: Arc::try_clone(&made.firing)?,
+            first,
+            met: added.met,
+        };
+        self.journal.reserve(1)?;
+        self.fired.reserve(1)?;
+        grow(&mut self.arcs, &mut self.statuses, added.nodes, added.edges)?;
+        self.statuses.publish(seat, work.arc(), k + 1);
+        self.fired.push_reserved(fired);
+        self.journal.push_reserved(Step::Publish { seat });
+        Ok(first)
+    }
+
     // The seat claims an arc that waits, and what it had claimed is done.
     fn take(&mut self, seat: u32, arc: u32)
         requires ready { 0 < self.old.room }
@@ -153,4 +217,34 @@ impl State {
             Claim::NotYet
         }
     }
+}
+
+// So many nodes and these arcs more, which wait. After an error both are as before.
+fn grow(
+    arcs: &mut Arcs,
+    statuses: &mut Statuses,
+    nodes: u32,
+    edges: Vec<Edge>,
+) -> Result<(), AllocError>
+    requires nodes { arcs.old.nodes + nodes < 2 ^ 32 }
+    requires arcs { length arcs.old.arcs + length edges.items < 2 ^ 32 }
+    requires statuses { length statuses.old.list ≡ length arcs.old.arcs }
+    ensures arcs { OnOk result (arcs.new ≡ record {
+      nodes = arcs.old.nodes + nodes;
+      arcs = arcs.old.arcs ++ edges.items;
+    }) }
+    ensures statuses { OnOk result (statuses.new ≡ record {
+      list = statuses.old.list ++ replicate (length edges.items) status.Waiting;
+      seats = statuses.old.seats;
+    }) }
+    ensures same_arcs { OnErr result (arcs.new ≡ arcs.old) }
+    ensures same_statuses { OnErr result (statuses.new ≡ statuses.old) }
+{
+    let count = edges.len() as u32;
+    arcs.add(nodes, edges)?;
+    if statuses.add(count).is_err() {
+        arcs.remove(nodes, count);
+        return Err(AllocError);
+    }
+    Ok(())
 }
