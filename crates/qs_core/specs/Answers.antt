@@ -42,9 +42,9 @@ end_of_stop (stop.Halted i) = end.Halted
 abbrev pub IsStopped : CoreState → End → Type 0
 IsStopped S e = option_map end_of_stop S.stop ≡ Some e
 
--- What a claim of seat i answers, by the machine M that it finds, and the machine N that it leaves. Where a stop stands,
--- it is told. Else the seat takes an arc that waits. Where none waits the seat rests, and another seat's claim tells
--- whether the run goes on.
+-- What a claim of seat i answers, by the machine M that it finds, and the machine N that it leaves. Where a stop
+-- stands, it is told. Else the seat takes an arc that waits. Where none waits the seat rests, and another seat's claim
+-- tells whether the run goes on.
 abbrev pub IsClaimed : Machine → ℕ → Claim → Machine → Type 0
 IsClaimed M i (claim.Took m) N =
     (M.state.stop ≡ None) × (slice_get M.state.status m ≡ Some status.Waiting)

@@ -104,8 +104,8 @@ after_claim S i m = record {
 abbrev pub fired_at : List Rule → QGraph → Firing → Fired
 fired_at R G f = record { firing = f; first = first_arc R G f; met = meets R G f }
 
--- The firing f is done, the k-th, from 0, of the work of the arc m, which seat i has claimed. What it adds is added, and
--- the arcs that are added wait.
+-- The firing f is done, the k-th, from 0, of the work of the arc m, which seat i has claimed. What it adds is added,
+-- and the arcs that are added wait.
 abbrev pub after_publish : List Rule → CoreState → ℕ → ℕ → ℕ → Firing → CoreState
 after_publish R S i m k f = record {
   graph = adds R S.graph f;

@@ -59,15 +59,11 @@ abbrev pub Stops : Base → CoreState → Stop → CoreState → Type 0
 Stops B S (stop.Over i) T = MayStopOver B S i × (T ≡ after_stop S (stop.Over i))
 Stops B S (stop.Halted i) T = MayHalt B S i × (T ≡ after_stop S (stop.Halted i))
 
--- The seat whose step it is, and whose stop.
+-- The seat whose step it is.
 abbrev pub seat_of : Step → ℕ
 seat_of (step.Claim i m) = i
 seat_of (step.Rest i) = i
 seat_of (step.Publish i) = i
-
-abbrev pub seat_of_stop : Stop → ℕ
-seat_of_stop (stop.Over i) = i
-seat_of_stop (stop.Halted i) = i
 
 -- These steps, each of which may be made behind those before it, lead from S to T.
 abbrev pub Steps : Base → CoreState → List Step → CoreState → Type 0

@@ -31,7 +31,8 @@ fired_code =
 abbrev pub core_code : Coded CoreState
 core_code =
     code_by (QGraph × (List Fired × (List Status × Option Stop)))
-    (coded× graph_code (coded× (coded_list fired_code) (coded× (coded_list status.the_row.coded) (coded_option stop.the_row.coded))))
+    (coded× graph_code
+    (coded× (coded_list fired_code) (coded× (coded_list status.the_row.coded) (coded_option stop.the_row.coded))))
     (λ s. (s.graph, (s.done, (s.status, s.stop))))
     (λ p. record { graph = p.0; done = p.1.0; status = p.1.1.0; stop = p.1.1.1 }) (λ _. refl)
 
