@@ -7,3 +7,4 @@ pub mod TreesOn
 pub mod SameVariables
 pub mod Fired
 pub mod Merging
+pub mod Placing

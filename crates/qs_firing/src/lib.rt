@@ -7,6 +7,7 @@ mod joined;
 mod key;
 pub mod laws;
 mod paths;
+mod places;
 mod view;
 
 pub use deciding::fires;
