@@ -12,3 +12,4 @@ pub mod Sorting
 pub mod Choosing
 pub mod Within
 pub mod Works
+pub mod Placing
