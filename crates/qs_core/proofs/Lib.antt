@@ -10,5 +10,6 @@ pub mod Machines
 pub mod Counting
 pub mod Publishing
 pub mod Stopping
+pub mod Staying
 pub mod Keeping
 pub mod Runs

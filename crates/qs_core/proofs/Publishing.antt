@@ -1,5 +1,5 @@
 -- A publication: what its conditions show, and what it makes of the machine.
-use Rattle.std.proofs.Common.{◌≡◌, ℕ, zero, suc, ◌+◌, ◌-◌, ◌*◌, ◌^◌, ◌<◌, ◌≤◌, Bool, List, [], ◌∷◌, ◌++◌, length, map, set, take, replicate, refl, sym, ◌∙◌, ap, subst, arith, Option, Some, None, slice_get, get_or, length-append}
+use Rattle.std.proofs.Common.{◌≡◌, ℕ, zero, suc, ◌+◌, ◌*◌, ◌^◌, ◌<◌, ◌≤◌, Bool, List, [], ◌∷◌, ◌++◌, length, map, set, take, replicate, refl, sym, ◌∙◌, ap, subst, arith, Option, Some, None, slice_get, get_or}
 use Rattle.std.proofs.lemmas.List.{length-map, length-take, take-append-le}
 use Rattle.qs_tree.specs.Lists.{◌∈◌}
 use Rattle.qs_tree.proofs.Members.{in_at, in_map, at_place}
@@ -59,16 +59,6 @@ wait_each (x ∷ xs) = ap (λ zs. status.Waiting ∷ zs) (wait_each xs)
 
 take_less : (n : ℕ) (xs ys : List Arc) → length (take n xs) ≡ n → take n (xs ++ ys) ≡ take n xs
 take_less n xs ys e = take-append-le n xs ys (omega (arith, e, length-take n xs))
-
--- what is added and taken away again leaves what was there
-pub taken_away : {X : Type 0} (xs ys : List X) (n : ℕ) → n ≡ length ys → take (length (xs ++ ys) - n) (xs ++ ys) ≡ xs
-taken_away xs ys n e =
-    let m : length (xs ++ ys) - n ≡ length xs = omega (arith, e, length-append xs ys) in
-    ap (λ k. take k (xs ++ ys)) m ∙ take-append-le (length xs) xs ys (omega arith) ∙ all xs
-  where
-    all : {Y : Type 0} (zs : List Y) → take (length zs) zs ≡ zs
-    all [] = refl
-    all (z ∷ zs) = ap (λ ws. z ∷ ws) (all zs)
 
 module _ {M : Machine} {entry exit arcs : ℕ} {unique : Bool} (sound : IsSound M entry exit arcs unique) where
   kept : Keeps M.base M.state

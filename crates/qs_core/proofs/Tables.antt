@@ -1,8 +1,8 @@
 -- Statuses with what is looked up among them stay so, whatever is claimed, published and done.
-use Rattle.std.proofs.Common.{◌≡◌, ℕ, zero, suc, ◌+◌, ◌-◌, ◌^◌, ◌<◌, ◌≤◌, Bool, true, false, List, [], ◌∷◌, ◌++◌, length, map, set, replicate, refl, sym, ◌∙◌, ap, subst, inl, inr, ⊎_elim, ◌⊎◌, arith, Option, Some, None, slice_get, get_or, eqb, eqb-true, eq-eqb, length-append, length-set}
+use Rattle.std.proofs.Common.{◌≡◌, ℕ, zero, suc, ◌+◌, ◌-◌, ◌^◌, ◌<◌, ◌≤◌, Bool, true, false, List, [], ◌∷◌, ◌++◌, length, map, set, replicate, refl, sym, ◌∙◌, ap, subst, inl, inr, ⊎_elim, ◌⊎◌, arith, Option, Some, None, slice_get, get_or, eqb, eqb-true, eq-eqb, length-append, length-set, take}
 use Rattle.std.specs.Prelude.{if◌then◌else◌}
 use Rattle.std.proofs.lemmas.Option.{slice_get_within}
-use Rattle.std.proofs.lemmas.List.{length-replicate}
+use Rattle.std.proofs.lemmas.List.{length-replicate, take-append-le}
 use Rattle.qs_tree.proofs.Members.{at_place}
 use Rattle.qs_graph.proofs.Paths.{slice_get-append}
 use Rattle.qs_core.specs.declared.step.Status.{Status}
@@ -95,6 +95,16 @@ one_rests i (x ∷ xs) (suc m) k at one =
     let e : rest_one i x ≡ x = rest_same i x (λ l d. let w = one 0 l (ap Some d) in omega arith) in
     let r : map (rest_one i) xs ≡ set xs m status.Done = one_rests i xs m k at (λ n l d. let w = one (suc n) l d in omega arith) in
     λ j. e j ∷ r j
+
+-- what is added and taken away again leaves what was there
+pub taken_away : {X : Type 0} (xs ys : List X) (n : ℕ) → n ≡ length ys → take (length (xs ++ ys) - n) (xs ++ ys) ≡ xs
+taken_away xs ys n e =
+    let m : length (xs ++ ys) - n ≡ length xs = omega (arith, e, length-append xs ys) in
+    ap (λ k. take k (xs ++ ys)) m ∙ take-append-le (length xs) xs ys (omega arith) ∙ all xs
+  where
+    all : {Y : Type 0} (zs : List Y) → take (length zs) zs ≡ zs
+    all [] = refl
+    all (z ∷ zs) = ap (λ ws. z ∷ ws) (all zs)
 
 abbrev no_claim : Option ℕ
 no_claim = None
@@ -262,3 +272,33 @@ module _ {list : List Status} {claims : List (Option ℕ)} {next left : ℕ} (t 
     next_few = low;
     left_is = t.left_is;
   }
+
+  pub with_less : (n next' : ℕ) (kept : List Status) → list ≡ kept ++ replicate n status.Waiting → next' ≤ next → next' ≤ length list - n → IsTable (take (length list - n) list) claims next' (left - n)
+  with_less n next' kept is low inside = subst (λ xs. IsTable xs claims next' (left - n)) (sym short) (record {
+    few = omega (arith, t.few, long);
+    seats_few = t.seats_few;
+    claims_are = λ j m. (there j m, back j m);
+    passed = λ m e. omega (arith, low, t.passed m (ap (λ xs. slice_get xs m) is ∙ slice_get-append kept (replicate n status.Waiting) m status.Waiting e));
+    next_few = omega (arith, inside, long);
+    left_is = omega (arith, t.left_is, ap undone is, undone_more kept (replicate n status.Waiting), undone_waiting n);
+  })
+    where
+      long : length list ≡ length kept + n
+      long = omega (arith, ap length is, length-append kept (replicate n status.Waiting), length-replicate n status.Waiting)
+
+      short : take (length list - n) list ≡ kept
+      short = (λ i. take (length (is i) - n) (is i)) ∙ taken_away kept (replicate n status.Waiting) n (sym (length-replicate n status.Waiting))
+
+      there : (j m : ℕ) → slice_get claims j ≡ Some (Some m) → (l : ℕ) × (slice_get kept m ≡ Some (status.Claimed j l))
+      there j m e =
+          let (l, f) = (t.claims_are j m).0 e in
+          ⊎_elim
+          (λ d. (l, d))
+          (λ (h, (p, d)). let x : status.Claimed j l ≡ status.Waiting = of_replicate n status.Waiting p (status.Claimed j l) d in absurd cc)
+          (more_cases kept (replicate n status.Waiting) m (status.Claimed j l) (ap (λ xs. slice_get xs m) (sym is) ∙ f))
+
+      back : (j m : ℕ) → ((l : ℕ) × (slice_get kept m ≡ Some (status.Claimed j l))) → slice_get claims j ≡ Some (Some m)
+      back j m (l, e) = (t.claims_are j m).1 (l, ap (λ xs. slice_get xs m) is ∙ slice_get-append kept (replicate n status.Waiting) m (status.Claimed j l) e)
+
+  pub waiting_left : (n : ℕ) (kept : List Status) → list ≡ kept ++ replicate n status.Waiting → n ≤ left
+  waiting_left n kept is = omega (arith, t.left_is, ap undone is, undone_more kept (replicate n status.Waiting), undone_waiting n)

@@ -1,35 +1,34 @@
 //! A graph that grows.
 
 ghost use Rattle.std.specs.Prelude.{◌≡◌, ◌<◌, ◌≤◌, ◌+◌, ◌^◌, ◌++◌, ◌↔◌, length, map, IsTrue, IfOk, OnOk, OnErr, Some};
-ghost use Rattle.std.specs.Prelude.{slice_get, take, ◌-◌};
+ghost use Rattle.std.specs.Prelude.{slice_get};
 ghost use Rattle.std.specs.Arc.{arc_value};
 ghost use Rattle.qs_tree.specs.Cells.{tree_of};
 ghost use Rattle.qs_graph.specs.Chains.{chain};
 ghost use Rattle.qs_firing.specs.Adding.{least_arc};
 
+use qs_firing::View;
 use qs_graph::Edge;
 use qs_tree::{Tree, TreeRef, same};
 use std::alloc::{AllocError, Global};
 use std::marker::Model;
 use std::sync::Arc;
 
-// Whether the arc leads from one node to another and carries this tree.
-fn is_from_to(edge: &Edge, from: u32, to: u32, tree: TreeRef<'_>) -> bool
-    ensures { IsTrue result
-        ↔ ((edge.now.from ≡ from) × (edge.now.to ≡ to) × (edge.now.tree ≡ tree_of tree.entry.cells.now)) }
+// Whether the arc ends at this node and carries this tree.
+fn ends_with(edge: &Edge, to: u32, tree: TreeRef<'_>) -> bool
+    ensures { IsTrue result ↔ ((edge.now.to ≡ to) × (edge.now.tree ≡ tree_of tree.entry.cells.now)) }
 {
-    edge.from == from && edge.to == to && same(edge.tree.view(), tree)
+    edge.to == to && same(edge.tree.view(), tree)
 }
 
-/// A graph whose nodes and arcs only become more.
+/// A graph whose nodes and arcs only become more. The arcs that leave a node are found one after the other.
 #[derive(Drop)]
 pub struct Arcs {
     nodes: u32,
-    edges: Vec<Edge>,
+    view: View,
 }
 
 impl Model for Arcs {
-    ghost use Rattle.std.specs.Prelude.{◌<◌, ◌^◌, length};
     ghost use Rattle.qs_graph.specs.Graphs.{QGraph};
     ghost use Rattle.qs_graph.specs.working.Codes.{graph_code};
 
@@ -37,9 +36,7 @@ impl Model for Arcs {
 
     ghost coded = { graph_code };
 
-    ghost view = { λ a. record { nodes = a.nodes; arcs = a.edges.items } };
-
-    ghost invariant = { λ a. length a.edges.items < 2 ^ 32 };
+    ghost view = { λ a. record { nodes = a.nodes; arcs = a.view } };
 }
 
 impl Arcs {
@@ -48,8 +45,9 @@ impl Arcs {
         requires { length edges.now < 2 ^ 32 }
         ensures { IfOk result (λ a. a ≡ record { nodes = nodes; arcs = edges.now }) }
     {
-        let edges = copies_of(alloc, edges)?;
-        Ok(Arcs { nodes, edges })
+        let mut view = View::empty(alloc);
+        view.add(edges)?;
+        Ok(Arcs { nodes, view })
     }
 
     /// The arcs in their order.
@@ -57,14 +55,14 @@ impl Arcs {
         ensures value { result.now ≡ self.now.arcs }
         ensures few { length result.now < 2 ^ 32 }
     {
-        &self.edges
+        self.view.edges()
     }
 
     /// The number of arcs.
     pub fn len(&self) -> u32
         ensures { result ≡ length self.now.arcs }
     {
-        self.edges.len() as u32
+        self.view.len()
     }
 
     /// The number of nodes.
@@ -79,62 +77,39 @@ impl Arcs {
         requires { arc < length self.now.arcs }
         ensures { slice_get self.now.arcs arc ≡ Some result.now }
     {
-        &self.edges[arc as usize]
+        self.view.edge(arc)
     }
 
-    /// The least arc that leads from one node to another and carries this tree.
+    /// The least arc that leads from one node to another and carries this tree. It is looked for among the arcs that
+    /// leave the first node, from the last one down.
     pub fn least(&self, from: u32, to: u32, tree: TreeRef<'_>) -> Option<u32>
         ensures { result ≡ least_arc self.now.arcs from to (tree_of tree.entry.cells.now) }
     {
-        let mut number = 0;
-        for edge in &self.edges {
-            if is_from_to(edge, from, to, tree) {
-                return Some(number);
+        let mut least = None;
+        let mut next = self.view.last_out(from);
+        while let Some(arc) = next {
+            if ends_with(self.view.edge(arc), to, tree) {
+                least = Some(arc);
             }
-            number += 1;
+            next = self.view.before_out(arc);
         }
-        None
+        least
     }
 
     /// So many nodes more, and these arcs more. After an error the graph is as before.
-    pub fn add(&mut self, nodes: u32, edges: Vec<Edge>) -> Result<(), AllocError>
+    pub fn add(&mut self, nodes: u32, edges: &[Edge]) -> Result<(), AllocError>
         requires nodes { self.old.nodes + nodes < 2 ^ 32 }
-        requires arcs { length self.old.arcs + length edges.items < 2 ^ 32 }
+        requires arcs { length self.old.arcs + length edges.now < 2 ^ 32 }
         ensures ok { OnOk result (self.new ≡ record {
           nodes = self.old.nodes + nodes;
-          arcs = self.old.arcs ++ edges.items;
+          arcs = self.old.arcs ++ edges.now;
         }) }
         ensures err { OnErr result (self.new ≡ self.old) }
     {
-        let mut edges = edges;
-        self.edges.append(&mut edges)?;
+        self.view.add(edges)?;
         self.nodes += nodes;
         Ok(())
     }
-
-    /// So many nodes and arcs less, the last ones. Takes no memory.
-    pub fn remove(&mut self, nodes: u32, arcs: u32)
-        requires nodes { nodes ≤ self.old.nodes }
-        requires arcs { arcs ≤ length self.old.arcs }
-        ensures { self.new ≡ record {
-          nodes = self.old.nodes - nodes;
-          arcs = take (length self.old.arcs - arcs) self.old.arcs;
-        } }
-    {
-        self.edges.truncate(self.edges.len() - arcs as usize);
-        self.nodes -= nodes;
-    }
-}
-
-/// Equal arcs, which own the same trees.
-pub fn copies_of(alloc: Global, edges: &[Edge]) -> Result<Vec<Edge>, AllocError>
-    ensures { IfOk result (λ v. v.items ≡ edges.now) }
-{
-    let mut copies = Vec::with_capacity(alloc, edges.len())?;
-    for edge in edges {
-        copies.push(edge.copy()?)?;
-    }
-    Ok(copies)
 }
 
 /// A chain of these trees, which its arcs own too, from one node to another, through new nodes behind the last one,

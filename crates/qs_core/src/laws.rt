@@ -1,15 +1,18 @@
 //! Laws of the core, over its definitions alone.
 
-ghost use Rattle.std.specs.Prelude.{◌≡◌, ◌≢◌, ◌≤◌, ◌↔◌, ℕ, List, [], length, Option, Some};
+ghost use Rattle.std.specs.Prelude.{◌≡◌, ◌≢◌, ◌<◌, ◌≤◌, ◌↔◌, ◌++◌, ℕ, List, [], length, Option, Some};
 ghost use Rattle.qs_tree.specs.Lists.{◌∈◌};
+ghost use Rattle.qs_graph.specs.Graphs.{Arc};
 ghost use Rattle.qs_firing.specs.Firings.{Firing, Fires};
+ghost use Rattle.qs_firing.specs.Work.{WorkWithTrees, IsRightFor};
 ghost use Rattle.qs_core.specs.declared.step.Step.{Step};
 ghost use Rattle.qs_core.specs.declared.step.Stop.{Stop};
 ghost use Rattle.qs_core.specs.declared.step.Stop.TheVariants as stop;
 ghost use Rattle.qs_core.specs.Growth.{AllApart};
-ghost use Rattle.qs_core.specs.Core.{Base, CoreState, opening, fired, IsClosed, HasClaim, Next};
+ghost use Rattle.qs_core.specs.Core.{Base, CoreState, opening, fired, IsClosed, HasClaim, IsFree, Next};
 ghost use Rattle.qs_core.specs.Runs.{Makes, Stops, seat_of, Run};
 ghost use Rattle.qs_core.specs.Keeps.{Keeps};
+ghost use Rattle.qs_core.specs.Answers.{HasAnyClaim};
 
 /// What every state of the core keeps holds at the opening, and behind each kind of step and of stop from every state in
 /// which it holds; so it holds behind every run.
@@ -48,4 +51,21 @@ pub fn runs_are_limited()
         → length T.done ≤ B.limit }
     ensures over { (B : Base) (journal : List Step) (last : Option Stop) (T : CoreState) → Run B journal last T
         → (i : ℕ) → T.stop ≡ Some (stop.Over i) → (length T.done ≡ B.limit) × Next B T i }
+{}
+
+/// A seat is free that has no claim, and one that has claimed the arc of a work that is right and of which as many
+/// firings are done as it has.
+pub fn worked_seats_are_free()
+    ensures none { (B : Base) (S : CoreState) (i : ℕ) → (HasAnyClaim S i → ⊥) → IsFree B S i }
+    ensures worked { (B : Base) (S : CoreState) → Keeps B S → (i k : ℕ) (work : WorkWithTrees)
+        → HasClaim S i work.arc k → IsRightFor B.rules S.graph.arcs work → k ≡ length work.made → IsFree B S i }
+{}
+
+/// Steps take no arc away and change none; so a work that is right stays right.
+pub fn works_stay_right()
+    ensures arcs { (B : Base) (S : CoreState) (v : Step) (T : CoreState) → Makes B S v T
+        → (more : List Arc) × (T.graph.arcs ≡ S.graph.arcs ++ more) }
+    ensures right { (B : Base) (S : CoreState) (v : Step) (T : CoreState) → Makes B S v T → (work : WorkWithTrees)
+        → work.arc < length S.graph.arcs → IsRightFor B.rules S.graph.arcs work
+        → IsRightFor B.rules T.graph.arcs work }
 {}

@@ -1,7 +1,7 @@
 //! The statuses of arcs.
 
 ghost use Rattle.std.specs.Prelude.{◌≡◌, ◌<◌, ◌≤◌, ◌+◌, ◌^◌, ◌++◌, ◌↔◌, ℕ, Some, None, length, map};
-ghost use Rattle.std.specs.Prelude.{replicate, slice_get, set, IsTrue, IfOk, OnOk, OnErr};
+ghost use Rattle.std.specs.Prelude.{List, ◌-◌, replicate, slice_get, set, take, IsTrue, IfOk, OnOk, OnErr};
 ghost use Rattle.qs_core.specs.declared.step.Status.{Status as StatusOfArc};
 ghost use Rattle.qs_core.specs.declared.step.Status.TheVariants as status;
 ghost use Rattle.qs_core.specs.Core.{rest_one};
@@ -147,6 +147,16 @@ impl Statuses {
         self.list.append(&mut more)?;
         self.left += arcs;
         Ok(())
+    }
+
+    /// So many arcs less, the last ones, which wait. Takes no memory.
+    pub fn remove(&mut self, arcs: u32)
+        requires { (kept : List StatusOfArc) × (self.old.list ≡ kept ++ replicate arcs status.Waiting) }
+        ensures { self.new ≡ record { list = take (length self.old.list - arcs) self.old.list; seats = self.old.seats } }
+    {
+        self.list.truncate(self.list.len() - arcs as usize);
+        self.next = self.next.min(self.list.len() as u32);
+        self.left -= arcs;
     }
 }
 

@@ -160,7 +160,12 @@ impl State {
         };
         self.journal.reserve(1)?;
         self.fired.reserve(1)?;
-        grow(&mut self.arcs, &mut self.statuses, added.nodes, added.edges)?;
+        grow(
+            &mut self.arcs,
+            &mut self.statuses,
+            added.nodes,
+            &added.edges,
+        )?;
         self.statuses.publish(seat, work.arc(), k + 1);
         self.fired.push_reserved(fired);
         self.journal.push_reserved(Step::Publish { seat });
@@ -224,26 +229,26 @@ fn grow(
     arcs: &mut Arcs,
     statuses: &mut Statuses,
     nodes: u32,
-    edges: Vec<Edge>,
+    edges: &[Edge],
 ) -> Result<(), AllocError>
     requires nodes { arcs.old.nodes + nodes < 2 ^ 32 }
-    requires arcs { length arcs.old.arcs + length edges.items < 2 ^ 32 }
+    requires arcs { length arcs.old.arcs + length edges.now < 2 ^ 32 }
     requires statuses { length statuses.old.list ≡ length arcs.old.arcs }
     ensures arcs { OnOk result (arcs.new ≡ record {
       nodes = arcs.old.nodes + nodes;
-      arcs = arcs.old.arcs ++ edges.items;
+      arcs = arcs.old.arcs ++ edges.now;
     }) }
     ensures statuses { OnOk result (statuses.new ≡ record {
-      list = statuses.old.list ++ replicate (length edges.items) status.Waiting;
+      list = statuses.old.list ++ replicate (length edges.now) status.Waiting;
       seats = statuses.old.seats;
     }) }
     ensures same_arcs { OnErr result (arcs.new ≡ arcs.old) }
     ensures same_statuses { OnErr result (statuses.new ≡ statuses.old) }
 {
     let count = edges.len() as u32;
-    arcs.add(nodes, edges)?;
-    if statuses.add(count).is_err() {
-        arcs.remove(nodes, count);
+    statuses.add(count)?;
+    if arcs.add(nodes, edges).is_err() {
+        statuses.remove(count);
         return Err(AllocError);
     }
     Ok(())
