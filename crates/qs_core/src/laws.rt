@@ -14,8 +14,8 @@ ghost use Rattle.qs_core.specs.Runs.{Makes, Stops, seat_of, Run};
 ghost use Rattle.qs_core.specs.Keeps.{Keeps};
 ghost use Rattle.qs_core.specs.Answers.{HasAnyClaim};
 
-/// What every state of the core keeps holds at the opening, and behind each kind of step and of stop from every state in
-/// which it holds; so it holds behind every run.
+/// What every state of the core keeps holds at the opening, and behind each kind of step and of stop from every state
+/// in which it holds; so it holds behind every run.
 pub fn core_keeps()
     ensures opening { (B : Base) → Keeps B (opening B) }
     ensures step { (B : Base) (S : CoreState) (v : Step) (T : CoreState) → Makes B S v T → Keeps B S → Keeps B T }

@@ -152,7 +152,10 @@ impl Statuses {
     /// So many arcs less, the last ones, which wait. Takes no memory.
     pub fn remove(&mut self, arcs: u32)
         requires { (kept : List StatusOfArc) × (self.old.list ≡ kept ++ replicate arcs status.Waiting) }
-        ensures { self.new ≡ record { list = take (length self.old.list - arcs) self.old.list; seats = self.old.seats } }
+        ensures { self.new ≡ record {
+          list = take (length self.old.list - arcs) self.old.list;
+          seats = self.old.seats;
+        } }
     {
         self.list.truncate(self.list.len() - arcs as usize);
         self.next = self.next.min(self.list.len() as u32);

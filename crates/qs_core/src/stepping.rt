@@ -60,8 +60,8 @@ impl State {
     }
 
     /// The seat claims this arc. There is such a seat, and it has no claim, or its work on the arc that it has claimed
-    /// is all done. True exactly where no stop stands and the arc waits; then what the seat had claimed is done, and the
-    /// step is `Claim`. Else nothing changes, nor after `Memory`.
+    /// is all done. True exactly where no stop stands and the arc waits; then what the seat had claimed is done, and
+    /// the step is `Claim`. Else nothing changes, nor after `Memory`.
     pub fn claim_this(&mut self, seat: u32, arc: u32) -> Result<bool, AllocError>
         requires seat { seat < self.old.machine.base.seats }
         requires free { IsFree self.old.machine.base self.old.machine.state seat }
@@ -116,11 +116,12 @@ impl State {
     ///
     /// `Ended` exactly where a stop stands, as it says; then nothing changes. Else it is `Over` exactly where the
     /// limit's firings are done; then the stop becomes `Over` of this seat. Else it is `Published`: the `k`-th firing,
-    /// from 0, is done, what it adds is added, the arcs that are added wait, the claim has one firing more done, and the
-    /// step is `Publish`; the number is that of the first arc of the firing's result. After `Memory` nothing has
+    /// from 0, is done, what it adds is added, the arcs that are added wait, the claim has one firing more done, and
+    /// the step is `Publish`; the number is that of the first arc of the firing's result. After `Memory` nothing has
     /// changed.
     pub fn publish(&mut self, seat: u32, work: &Joined, k: u32) -> Result<Put, AllocError>
-        requires claim { self.old.machine.state.stop ≡ None → HasClaim self.old.machine.state seat work.now.arc k }
+        requires claim { self.old.machine.state.stop ≡ None
+            → HasClaim self.old.machine.state seat work.now.arc k }
         requires more { self.old.machine.state.stop ≡ None → k < length work.now.made }
         requires right { self.old.machine.state.stop ≡ None
             → IsRightFor self.old.machine.base.rules self.old.machine.state.graph.arcs work.now }

@@ -6,7 +6,8 @@ use Rattle.qs_firing.specs.Firings.{Firing}
 use Rattle.qs_firing.specs.Adding.{adds, added, first_arc, meets}
 
 -- The first arc of the result of f over G, whether it is met, and the nodes and the arcs that f adds.
-pub record IsAddition (R : List Rule) (G : QGraph) (f : Firing) (first : ℕ) (met : Bool) (nodes : ℕ) (arcs : List Arc) : Type 0 where
+pub record IsAddition (R : List Rule) (G : QGraph) (f : Firing) (first : ℕ) (met : Bool) (nodes : ℕ) (arcs : List Arc)
+    : Type 0 where
   pub first_is : first ≡ first_arc R G f
   pub met_is : met ≡ meets R G f
   pub graph_is : ◌≡◌ {A = QGraph} (record { nodes = G.nodes + nodes; arcs = G.arcs ++ arcs }) (adds R G f)

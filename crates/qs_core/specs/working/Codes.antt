@@ -19,7 +19,8 @@ use Rattle.qs_core.specs.Machines.{StatusTable}
 
 abbrev pub base_code : Coded Base
 base_code =
-    code_by (List Rule × (QGraph × (ℕ × ℕ))) (coded× (coded_list rule_code) (coded× graph_code (coded× coded_ℕ coded_ℕ)))
+    code_by (List Rule × (QGraph × (ℕ × ℕ)))
+    (coded× (coded_list rule_code) (coded× graph_code (coded× coded_ℕ coded_ℕ)))
     (λ b. (b.rules, (b.start, (b.limit, b.seats))))
     (λ p. record { rules = p.0; start = p.1.0; limit = p.1.1.0; seats = p.1.1.1 }) (λ _. refl)
 
