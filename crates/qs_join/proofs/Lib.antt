@@ -9,3 +9,4 @@ pub mod Work
 pub mod Sorting
 pub mod Making
 pub mod Building
+pub mod Standing

@@ -2,7 +2,7 @@
 //! then to the right. It recurses over the places of the side, of which there are at most 16.
 
 ghost use Rattle.std.specs.Prelude.{◌≡◌, ◌<◌, ◌≤◌, ◌+◌, ◌∷◌, ◌++◌, [], ℕ, List, length, OnOk, slice_get, Some};
-ghost use Rattle.std.specs.Prelude.{true, false};
+ghost use Rattle.std.specs.Prelude.{true, false, IfOk, None};
 ghost use Rattle.qs_tree.specs.Lists.{◌∈◌};
 ghost use Rattle.qs_tree.specs.Trees.{Tree};
 ghost use Rattle.qs_pattern.specs.Patterns.{count};
@@ -12,11 +12,14 @@ ghost use Rattle.qs_graph.specs.Graphs.{IsPath, trees_on};
 ghost use Rattle.qs_firing.specs.Firings.{Firing as FiringOfRule};
 ghost use Rattle.qs_firing.specs.Neighbours.{starts, ends};
 ghost use Rattle.qs_join.specs.working.Searching.{AreUpTo, FiresBy, Through, Finds};
+ghost use Rattle.qs_join.specs.working.Listing.{root_of};
 ghost use Rattle.qs_join.specs.working.Matching.{HasValues};
 
+use crate::heads::asked_root;
 use qs_firing::{Firing, View, is_allowed, trees_on};
 use qs_match::all_matches;
-use qs_pattern::{Rule, Subst};
+use qs_pattern::{Pattern, Rule, Subst};
+use qs_tree::Label;
 use std::alloc::{AllocError, Global};
 
 /// Where firings are looked for: a rule and its number, the arcs, and the greatest of them that a path may have.
@@ -28,7 +31,18 @@ pub struct Search<'a> {
     pub newest: u32,
 }
 
-// Whether an arc may be at this place of a path. Where it says no, no firing's path has it there.
+// Whether a tree with this root can stand at the pattern, as far as the root says.
+fn can_be_root(pattern: &Pattern, root: Label) -> bool
+    ensures { result ≡ false → (root_of pattern.now ≡ None → ⊥) × (root_of pattern.now ≡ Some root → ⊥) }
+{
+    match asked_root(pattern) {
+        Some(label) => label == root,
+        None => true,
+    }
+}
+
+// Whether an arc may be at this place of a path: it isn't greater than the newest one, and its tree has a root that can
+// stand there. Where it says no, no firing's path has it there.
 fn can_stand(search: &Search<'_>, place: usize, arc: u32) -> bool
     requires arc { arc < length search.now.view.now }
     requires place { place < count search.now.rule.now.left }
@@ -37,7 +51,11 @@ fn can_stand(search: &Search<'_>, place: usize, arc: u32) -> bool
         → FiresBy search.now.number search.now.rule.now search.now.view.now f → AreUpTo search.now.newest f.path
         → slice_get f.path place ≡ Some arc → ⊥ }
 {
-    arc <= search.newest
+    if arc > search.newest {
+        return false;
+    }
+    let root = search.view.edge(arc).tree.view().root();
+    can_be_root(&search.rule.left()[place], root)
 }
 
 // Appends the firings of the rule on a path, one for each of these matches that its condition allows.
@@ -67,6 +85,23 @@ fn add_matches(
     Ok(())
 }
 
+// The matches of the rule's left side with the trees on a path. The tree of a path of one arc is not copied.
+fn matches_on(alloc: Global, search: &Search<'_>, path: &[u32]) -> Result<Vec<Subst>, AllocError>
+    requires { (a : ℕ) × (b : ℕ) × IsPath search.now.view.now a path.now b }
+    ensures sound { IfOk result (λ v. (s : Substitution) → s ∈ v.items
+        → IsMatch search.now.rule.now.left (trees_on search.now.view.now path.now) s) }
+    ensures all { IfOk result (λ v. (s : Substitution)
+        → IsMatch search.now.rule.now.left (trees_on search.now.view.now path.now) s → s ∈ v.items) }
+{
+    let side = search.rule.left();
+    if let [arc] = path {
+        let tree = search.view.edge(*arc).tree.view();
+        return all_matches(alloc, side, tree.alone());
+    }
+    let trees = trees_on(alloc, search.view, path)?;
+    all_matches(alloc, side, trees.view())
+}
+
 // The firings on a path that is as long as the rule's left side.
 fn fire(
     alloc: Global,
@@ -80,8 +115,7 @@ fn fire(
     ensures { OnOk result (Finds (Through search.now.number search.now.rule.now search.now.view.now search.now.newest 0
         path.now) found.old.items found.new.items) }
 {
-    let trees = trees_on(alloc, search.view, path)?;
-    let matches = all_matches(alloc, search.rule.left(), trees.view())?;
+    let matches = matches_on(alloc, search, path)?;
     add_matches(alloc, search, path, matches, found)
 }
 

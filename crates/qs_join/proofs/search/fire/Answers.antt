@@ -1,15 +1,10 @@
-use Rattle.std.proofs.Common.{◌∙◌}
 use Rattle.std.proofs.lemmas.Result.{on_ok_weaker}
 use Rattle.qs_graph.specs.Graphs.{trees_on}
-use Rattle.qs_join.proofs.Matching.{same_sound, same_all}
 use Rattle.qs_join.proofs.Paths.{through_whole}
 use Rattle.qs_join.proofs.search.fire.Goals as goal
 
 pub add_matches-requires : goal.add_matches-requires
-add_matches-requires c = (
-  trees_on c.args.search.now.view.now c.args.path.now,
-  same_sound _ _ _ _ c.in_ok-matches.matches.items c.left.ensures.value (c.view.ensures ∙ c.in_ok-trees.ensures) c.in_ok-matches.ensures.sound,
-)
+add_matches-requires c = (trees_on c.args.search.now.view.now c.args.path.now, c.in_ok-matches.ensures.sound)
 
 pub returns : goal.returns
 returns c =
@@ -18,6 +13,5 @@ returns c =
     let M = c.in_ok-matches.matches.items in
     on_ok_weaker c.add_matches.result
     (through_whole s.number s.rule.now s.view.now s.newest a c.args.path.now b M p c.requires.few c.requires.long
-    (same_sound _ _ _ _ M c.left.ensures.value (c.view.ensures ∙ c.in_ok-trees.ensures) c.in_ok-matches.ensures.sound)
-    (same_all _ _ _ _ M c.left.ensures.value (c.view.ensures ∙ c.in_ok-trees.ensures) c.in_ok-matches.ensures.all) c.args.found.now.items c.add_matches.new.found.items)
+    c.in_ok-matches.ensures.sound c.in_ok-matches.ensures.all c.args.found.now.items c.add_matches.new.found.items)
     c.add_matches.ensures
