@@ -1,6 +1,4 @@
-pub mod Ascending
 pub mod Rounds
-pub mod Sorting
 pub mod Existence
 pub mod Progress
 pub mod Keeping

@@ -9,7 +9,7 @@ use Rattle.qs_firing.specs.Firings.{Firing}
 use Rattle.qs_firing.specs.Adding.{first_arc, meets}
 use Rattle.qs_canon.specs.Rounds.{Round, Rounds, Stage, firings, after, after_one, Closes, Needs}
 use Rattle.qs_firing.proofs.Orders.{Before-asym}
-use Rattle.qs_canon.proofs.Ascending.{same_ascending}
+use Rattle.qs_firing.proofs.Ascending.{same_ascending}
 
 -- what a round has, the other has
 there : {R : List Rule} {G : QGraph} {H E F : List Firing} → Round R G H E → Round R G H F → (f : Firing) → f ∈ E → f ∈ F

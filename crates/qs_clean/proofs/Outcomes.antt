@@ -6,7 +6,7 @@ use Rattle.qs_graph.specs.Graphs.{QGraph, arcs_at}
 use Rattle.qs_canon.specs.Rounds.{Stage, Closes}
 use Rattle.qs_clean.specs.Cleaning.{Cleans, IsEndOf, IsLeft}
 use Rattle.qs_clean.specs.Cascades.{Cascade, Left, Ending, a_graph, no_arc, no_more, limit, empty, goes_on}
-use Rattle.qs_canon.proofs.Ascending.{same_ascending}
+use Rattle.qs_firing.proofs.Ascending.{same_ascending}
 use Rattle.qs_canon.proofs.Rounds.{one_closure, not_both}
 
 lt-asym : (m n : ℕ) → m < n → n < m → ⊥

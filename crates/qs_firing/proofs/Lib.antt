@@ -7,3 +7,9 @@ pub mod TreesOn
 pub mod SameVariables
 pub mod Fired
 pub mod Merging
+pub mod Ascending
+pub mod Sorting
+pub mod Choosing
+pub mod Within
+pub mod Works
+pub mod Placing

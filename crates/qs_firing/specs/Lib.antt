@@ -1,3 +1,5 @@
 pub mod Firings
 pub mod Adding
+pub mod Work
+pub mod Neighbours
 pub mod working

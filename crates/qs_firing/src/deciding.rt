@@ -54,8 +54,8 @@ fn is_match(
     Ok(same_forest(instance.view(), trees))
 }
 
-// Whether the rule's condition, if it has one, holds under a match of the rule's left side.
-fn is_allowed(alloc: Global, rule: &Rule, subst: &Subst) -> Result<bool, AllocError>
+/// Whether the rule's condition, if it has one, holds under a match of the rule's left side.
+pub fn is_allowed(alloc: Global, rule: &Rule, subst: &Subst) -> Result<bool, AllocError>
     requires { (trees : List Tree) × IsMatch rule.now.left trees subst.now }
     ensures { IfOk result (λ b. IsTrue b ↔ HoldsIfGiven rule.now.condition subst.now) }
 {

@@ -1,6 +1,7 @@
 //! Laws of firings, over their definitions alone.
 
-ghost use Rattle.std.specs.Prelude.{◌≡◌, ◌⊎◌, ◌<◌, ◌≤◌, ℕ, true, false, if◌then◌else◌, List, [], ◌∷◌, length};
+ghost use Rattle.std.specs.Prelude.{◌≡◌, ◌⊎◌, ◌↔◌, ◌<◌, ◌≤◌, ◌++◌, ℕ, true, false, if◌then◌else◌};
+ghost use Rattle.std.specs.Prelude.{List, [], ◌∷◌, length};
 ghost use Rattle.qs_tree.specs.Lists.{◌∈◌};
 ghost use Rattle.qs_tree.specs.Trees.{Tree};
 ghost use Rattle.qs_pattern.specs.Rules.{Rule, IsAccepted, IsUnique, AreLeftSidesInClass};
@@ -9,6 +10,7 @@ ghost use Rattle.qs_graph.specs.Chains.{with_chain};
 ghost use Rattle.qs_firing.specs.Firings.{Firing, Fires, Before, key};
 ghost use Rattle.qs_firing.specs.Adding.{start_of, end_of, built, adds, StandsAt, from_on, result_arcs, first_arc};
 ghost use Rattle.qs_firing.specs.Adding.{meets};
+ghost use Rattle.qs_firing.specs.Work.{IsWorkOf, Work};
 
 /// Keys order firings strictly and totally: of two firings one comes before the other, or their keys are equal, and not
 /// two of these at once.
@@ -54,4 +56,18 @@ pub fn results_are_built()
         → Fires R arcs f → 0 < length (built R f) }
     ensures few { (R : List Rule) → ((rule : Rule) → rule ∈ R → IsAccepted rule) → (f : Firing)
         → length (built R f) ≤ 16 }
+{}
+
+/// The work of an arc is determined, and arcs that come later never change it. With rules whose left sides have every
+/// variable at a place of its class, as accepted rules have, each arc has its work. What fires over some arcs is in the
+/// work of one of them, and nothing else is.
+pub fn work_of_an_arc()
+    ensures one { (R : List Rule) (arcs : List Arc) (m : ℕ) (E F : List Firing) → Work R arcs m E → Work R arcs m F
+        → E ≡ F }
+    ensures older { (R : List Rule) (arcs more : List Arc) (m : ℕ) (F : List Firing) → m < length arcs
+        → Work R arcs m F ↔ Work R (arcs ++ more) m F }
+    ensures some { (R : List Rule) → AreLeftSidesInClass R → (arcs : List Arc) (m : ℕ)
+        → (F : List Firing) × Work R arcs m F }
+    ensures placed { (R : List Rule) (arcs : List Arc) (f : Firing)
+        → Fires R arcs f ↔ ((m : ℕ) × IsWorkOf R arcs m f) }
 {}

@@ -1,22 +1,31 @@
 //! Lists of arcs that grow.
 
-ghost use Rattle.std.specs.Prelude.{◌≡◌, ◌<◌, ◌+◌, ◌^◌, ◌++◌, [], length, OnOk, OnErr, Some, slice_get};
+ghost use Rattle.std.specs.Prelude.{◌≡◌, ◌<◌, ◌≤◌, ◌+◌, ◌-◌, ◌^◌, ◌++◌, ◌∷◌, [], ℕ, length, take, OnOk, OnErr, Some};
+ghost use Rattle.std.specs.Prelude.{slice_get};
+ghost use Rattle.qs_firing.specs.Neighbours.{starts, ends, IsLastPlace};
 
+use crate::places::Places;
 use qs_graph::Edge;
 use std::alloc::{AllocError, Global};
 use std::marker::Model;
 
-/// A list of arcs, of which there are at most 4,294,967,295. Firings over it are those of its arcs.
+/// A list of arcs, of which there are at most 4,294,967,295. Firings over it are those of its arcs. The arcs at a node
+/// are found one after the other, from the last one down. Nodes may have any numbers: memory grows with the number of
+/// arcs alone.
 #[derive(Drop)]
 pub struct View {
     edges: Vec<Edge>,
+    // The nodes at which the arcs start, and at which they end.
+    sources: Places,
+    targets: Places,
 }
 
 impl Model for View {
-    ghost use Rattle.std.specs.Prelude.{List, ◌<◌, ◌^◌, length};
+    ghost use Rattle.std.specs.Prelude.{List, ◌≡◌, ◌<◌, ◌^◌, length};
     ghost use Rattle.std.specs.Coded.{coded_list};
     ghost use Rattle.qs_graph.specs.Graphs.{Arc};
     ghost use Rattle.qs_graph.specs.working.Codes.{arc_code};
+    ghost use Rattle.qs_firing.specs.Neighbours.{starts, ends};
 
     ghost Value = { List Arc };
 
@@ -24,7 +33,8 @@ impl Model for View {
 
     ghost view = { λ v. v.edges.items };
 
-    ghost invariant = { λ v. length v.edges.items < 2 ^ 32 };
+    ghost invariant = { λ v. (length v.edges.items < 2 ^ 32) × (v.sources ≡ starts v.edges.items)
+        × (v.targets ≡ ends v.edges.items) };
 }
 
 impl View {
@@ -34,6 +44,8 @@ impl View {
     {
         View {
             edges: Vec::new(alloc),
+            sources: Places::new(alloc),
+            targets: Places::new(alloc),
         }
     }
 
@@ -52,6 +64,48 @@ impl View {
         &self.edges[arc as usize]
     }
 
+    /// The arcs in their order. Takes no memory.
+    pub fn edges(&self) -> &[Edge]
+        ensures value { result.now ≡ self.now }
+        ensures few { length result.now < 2 ^ 32 }
+    {
+        &self.edges
+    }
+
+    /// The greatest number of an arc that starts at the node. None exactly where there is none. Takes no memory.
+    pub fn last_out(&self, node: u32) -> Option<u32>
+        ensures { IsLastPlace (starts self.now) node result }
+    {
+        self.sources.last(node)
+    }
+
+    /// The greatest number of an arc that ends at the node. None exactly where there is none. Takes no memory.
+    pub fn last_in(&self, node: u32) -> Option<u32>
+        ensures { IsLastPlace (ends self.now) node result }
+    {
+        self.targets.last(node)
+    }
+
+    /// The greatest smaller number of an arc that starts at the same node as this one. None exactly where there is
+    /// none. Takes no memory.
+    pub fn before_out(&self, arc: u32) -> Option<u32>
+        requires { arc < length self.now }
+        ensures { (n : ℕ) → slice_get (starts self.now) arc ≡ Some n
+            → IsLastPlace (take arc (starts self.now)) n result }
+    {
+        self.sources.before(arc)
+    }
+
+    /// The greatest smaller number of an arc that ends at the same node as this one. None exactly where there is none.
+    /// Takes no memory.
+    pub fn before_in(&self, arc: u32) -> Option<u32>
+        requires { arc < length self.now }
+        ensures { (n : ℕ) → slice_get (ends self.now) arc ≡ Some n
+            → IsLastPlace (take arc (ends self.now)) n result }
+    {
+        self.targets.before(arc)
+    }
+
     /// Appends copies of all these arcs, which own the same trees: no tree is copied. After `Memory` the list is as
     /// before.
     pub fn add(&mut self, edges: &[Edge]) -> Result<(), AllocError>
@@ -59,11 +113,52 @@ impl View {
         ensures ok { OnOk result (self.new ≡ self.old ++ edges.now) }
         ensures err { OnErr result (self.new ≡ self.old) }
     {
-        let mut copies = Vec::with_capacity(*self.edges.allocator(), edges.len())?;
+        let len = self.len();
         for edge in edges {
-            copies.push(edge.copy()?)?;
+            if self.push(edge).is_err() {
+                self.shorten(len);
+                return Err(AllocError);
+            }
         }
-        self.edges.append(&mut copies)?;
         Ok(())
+    }
+
+    // Appends a copy of one arc. After an error the list is as before.
+    fn push(&mut self, edge: &Edge) -> Result<(), AllocError>
+        requires { length self.old < 2 ^ 32 - 1 }
+        ensures ok { OnOk result (self.new ≡ self.old ++ edge.now ∷ []) }
+        ensures err { OnErr result (self.new ≡ self.old) }
+    {
+        let copy = edge.copy()?;
+        self.sources.push(edge.from)?;
+        if self.targets.push(edge.to).is_err() {
+            self.sources.pop();
+            return Err(AllocError);
+        }
+        if self.edges.push(copy).is_err() {
+            self.sources.pop();
+            self.targets.pop();
+            return Err(AllocError);
+        }
+        Ok(())
+    }
+
+    // Takes the last arc away.
+    fn pop(&mut self)
+        ensures { self.new ≡ take (length self.old - 1) self.old }
+    {
+        self.edges.pop();
+        self.sources.pop();
+        self.targets.pop();
+    }
+
+    // Leaves the first so many arcs alone.
+    fn shorten(&mut self, len: u32)
+        requires { len ≤ length self.old }
+        ensures { self.new ≡ take len self.old }
+    {
+        for _ in len..self.len() {
+            self.pop();
+        }
     }
 }

@@ -1,0 +1,15 @@
+pub mod Growth
+pub mod Twins
+pub mod Places
+pub mod Tables
+pub mod Least
+pub mod Ends
+pub mod Taken
+pub mod Marked
+pub mod Machines
+pub mod Counting
+pub mod Publishing
+pub mod Stopping
+pub mod Staying
+pub mod Keeping
+pub mod Runs

@@ -1,0 +1,12 @@
+pub mod Finding
+pub mod Walking
+pub mod Paths
+pub mod Matching
+pub mod Listing
+pub mod Roots
+pub mod Arcs
+pub mod Work
+pub mod Sorting
+pub mod Making
+pub mod Building
+pub mod Standing
