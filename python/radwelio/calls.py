@@ -1,8 +1,8 @@
 """The program's commands as calls.
 
-Each takes a text (a string, bytes in UTF-8, or an open file) and, as `program`, the program to ask: a path, a `Program`,
-or None for the one that `Program.find` finds. Each raises `Refused` where the program refuses the text, `CommandMissing`
-where it hasn't got the command, and another `Error` where it fails.
+Each takes a text (a string, bytes in UTF-8, or an open file) and, as `program`, the program to ask: a path, a
+`Program`, or None for the one that `Program.find` finds. Each raises `Refused` where the program refuses the text,
+`CommandMissing` where it hasn't got the command, and another `Error` where it fails.
 """
 
 from __future__ import annotations

@@ -1,7 +1,7 @@
 """The command `python3 -m radwelio`.
 
-It ends with the program's status (0 done, 1 wrong words, 2 text refused, 3 limit met, 4 to 7 failures), and with 70 where
-the program is missing or fails in a way of its own.
+It ends with the program's status (0 done, 1 wrong words, 2 text refused, 3 limit met, 4 to 7 failures), and with 70
+where the program is missing or fails in a way of its own.
 """
 
 from __future__ import annotations
@@ -27,8 +27,8 @@ from .trees import spelled, visible
 from .writing import dot, latex, latex_document
 
 DESCRIPTION = """\
-Shows what the program qsys makes of a deck: as a page, a picture, a chart, or trees; and says what is wrong with a deck,
-where it is wrong. Every graph that is shown is one that the program wrote."""
+Shows what the program qsys makes of a deck: as a page, a picture, a chart, or trees; and says what is wrong with a
+deck, where it is wrong. Every graph that is shown is one that the program wrote."""
 
 EXAMPLES = """\
 a first hour:
@@ -43,8 +43,8 @@ a first hour:
   %(prog)s tree --latex deck.qs            the trees for LaTeX, with the package forest
 
 A deck is a file, or - for standard input. The program is that of --program, of the variable QSYS, of the checkout, or
-on the PATH. The statuses are the program's: 0 done, 1 wrong words, 2 the deck is refused, 3 a grammar needs more firings
-than the limit; and 70 where there is no program, or where it fails."""
+on the PATH. The statuses are the program's: 0 done, 1 wrong words, 2 the deck is refused, 3 a grammar needs more
+firings than the limit; and 70 where there is no program, or where it fails."""
 
 WAIT = 2.0
 """How many seconds a work may take in silence."""
@@ -124,7 +124,9 @@ def _parser() -> argparse.ArgumentParser:
         one = made.add_mutually_exclusive_group()
         one.add_argument("--input", action="store_true", help="the graph of the deck, before any grammar")
         one.add_argument(
-            "--grammar", metavar="N", help="the graph that this grammar left, by its number from 1, or its name (the last)"
+            "--grammar",
+            metavar="N",
+            help="the graph that this grammar left, by its number from 1, or its name (the last)",
         )
 
     made = command("show", "writes a page with the deck and each grammar's graph before and after it")
@@ -183,9 +185,8 @@ def _check(given: argparse.Namespace, text: bytes, name: str, program: Program) 
     grammars, _ = grammars_of(deck)
     rules = sum(len(grammar.rules) for grammar in grammars)
     arcs = len(calls.graph(text, program=program).arcs)
-    return 0, (
-        f"{visible(name)}: accepted: {_count(len(grammars), 'grammar')}, {_count(rules, 'rule')}, {_count(arcs, 'arc')}\n"
-    )
+    counts = _count(len(grammars), "grammar"), _count(rules, "rule"), _count(arcs, "arc")
+    return 0, f"{visible(name)}: accepted: {', '.join(counts)}\n"
 
 
 COMMANDS: Dict[str, Callable[[argparse.Namespace, bytes, str, Program], Tuple[int, str]]] = {
@@ -251,7 +252,8 @@ class _Progress:
         wait = WAIT
         while not self._ended.wait(wait):
             seconds = int(time.monotonic() - began)
-            print(f"{self._what}: at work for {seconds} s", end="\r" if self._live else "\n", file=sys.stderr, flush=True)
+            end = "\r" if self._live else "\n"
+            print(f"{self._what}: at work for {seconds} s", end=end, file=sys.stderr, flush=True)
             wait = 1.0 if self._live else max(WAIT, seconds / 2)
 
     def __enter__(self) -> None:

@@ -1,8 +1,8 @@
 """Where the parts of a picture stand: the nodes, the arcs and the boxes on them, and the labels of a tree.
 
 A graph is laid out on a grid. The columns are, in turn, the nodes of one longest distance from the entry and the arcs
-that pass between them. Each arc has one row over all the columns that it passes, which no other arc has there; it leaves
-that row only beside its two nodes, where nothing is written. So no text stands over another.
+that pass between them. Each arc has one row over all the columns that it passes, which no other arc has there; it
+leaves that row only beside its two nodes, where nothing is written. So no text stands over another.
 """
 
 from __future__ import annotations

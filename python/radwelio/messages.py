@@ -1,7 +1,7 @@
 """A refusal as people know it from good compilers: the place, a sentence, the line, a caret, and what would help.
 
-The place and the cause are the program's. What could stand at the place of a syntax error is found by asking the program
-which kinds of token let it read on there; what is counted is counted in the text.
+The place and the cause are the program's. What could stand at the place of a syntax error is found by asking the
+program which kinds of token let it read on there; what is counted is counted in the text.
 """
 
 from __future__ import annotations
@@ -258,7 +258,9 @@ def _syntax(places: Places, at: int, token: Optional[Token]) -> Told:
         return "the text ends too early", []
     notes: List[str] = []
     if token.kind == "variable" and token.text[0] in "UVWXYZ":
-        notes = ["U* to Z* stand for lists of trees, so they stand inside of parentheses or in the lists of a condition"]
+        notes = [
+            "U* to Z* stand for lists of trees, so they stand inside of parentheses or in the lists of a condition"
+        ]
     return f"{_named(token)} can't stand here", notes
 
 

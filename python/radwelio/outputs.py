@@ -38,7 +38,7 @@ class Refusal:
 
 @dataclass(frozen=True)
 class Firing:
-    """That a rule (from 0, in its grammar) was used on a path of arcs, and the arcs that this gave, by their numbers."""
+    """That a rule (from 0, in its grammar) was used on a path of arcs, and the arcs that it gave, by their numbers."""
 
     rule: int
     path: Tuple[int, ...]

@@ -36,8 +36,8 @@ def page(
 ) -> str:
     """The page for a deck: the deck with its rules numbered, and for each grammar the graph before and after it.
 
-    Where the program has `explain`, the page tells of each arc that is left how it came about. Raises `Refused` where the
-    program refuses the deck.
+    Where the program has `explain`, the page tells of each arc that is left how it came about. Raises `Refused` where
+    the program refuses the deck.
     """
     found = Program.find(program)
     explained = "explain" in found.commands()
@@ -137,7 +137,9 @@ class _Page:
         return (
             '<section id="deck" aria-labelledby="deck-title"><h2 id="deck-title">The deck</h2>'
             '<p class="note">In each grammar the rules are numbered from 0, in the second column.</p>'
-            '<div class="listing" tabindex="0" role="region" aria-label="The deck">' + "".join(lines) + "</div></section>"
+            '<div class="listing" tabindex="0" role="region" aria-label="The deck">'
+            + "".join(lines)
+            + "</div></section>"
         )
 
     def _sections(self) -> List[str]:
@@ -147,11 +149,12 @@ class _Page:
             derivations = self._derivations(at, block)
             known = self.linked.get(at, {})
             if block.firings is None:
-                told = f"The grammar needs more than {block.limit:,} firings, which is the limit; nothing is told of it."
+                told = f"The grammar needs more than {block.limit:,} firings, which is the limit."
             else:
                 told = f"{_count(block.firings, 'firing')}. "
                 left = 0 if block.graph is None else len(block.graph.arcs)
-                told += "Nothing is left." if not left else f"{_count(left, 'arc')} {'is' if left == 1 else 'are'} left."
+                are = "is" if left == 1 else "are"
+                told += f"{_count(left, 'arc')} {are} left." if left else "Nothing is left."
             parts = [
                 f'<section class="grammar" id="grammar-{at}" aria-labelledby="title-{at}">',
                 f'<h2 id="title-{at}">{at + 1}. {_code(block.name)}</h2>',
@@ -167,7 +170,8 @@ class _Page:
                 parts.extend(derivations)
                 parts.append("</div>")
             parts.append(
-                f"<details><summary>As the program writes it</summary><pre>{escape(_controls(block.text))}</pre></details>"
+                "<details><summary>As the program writes it</summary>"
+                f"<pre>{escape(_controls(block.text))}</pre></details>"
             )
             parts.append("</section>")
             sections.append("\n".join(parts))

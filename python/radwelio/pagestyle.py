@@ -29,7 +29,8 @@ section { background: var(--paper); border: 1px solid var(--edge); border-radius
 .listing { overflow: auto; border-top: 1px solid var(--edge); padding-top: .4rem; }
 .line { display: flex; gap: .6rem; border-radius: 4px; padding: 0 .3rem; }
 .line code { white-space: pre-wrap; overflow-wrap: anywhere; tab-size: 8; flex: 1; line-height: 1.65; }
-.number { color: var(--soft); min-width: 2.2em; text-align: right; font-size: .8rem; line-height: 1.75; user-select: none; }
+.number { color: var(--soft); min-width: 2.2em; text-align: right; font-size: .8rem; line-height: 1.75;
+  user-select: none; }
 .rules { min-width: 1.6em; text-align: right; }
 .rule { color: var(--inner); font-size: .8rem; font-weight: bold; margin-left: .2em; }
 .marked { background: var(--mark); }
@@ -49,7 +50,7 @@ figcaption { color: var(--soft); font-size: .9rem; }
 .radwelio .node circle { fill: var(--paper); }
 .radwelio a { cursor: pointer; text-decoration: none; }
 .radwelio a .box { stroke: var(--inner); }
-.radwelio a:hover .box, .radwelio a:focus .box, .radwelio a:focus-visible .box { stroke: var(--chosen); stroke-width: 2.5; }
+.radwelio a:hover .box, .radwelio a:focus .box { stroke: var(--chosen); stroke-width: 2.5; }
 .radwelio a:focus { outline: none; }
 .radwelio .chosen .box { stroke: var(--chosen); stroke-width: 3; }
 .radwelio .way.chosen, .radwelio .way.source { stroke: var(--chosen); stroke-width: 2.6; }
@@ -63,17 +64,22 @@ figcaption { color: var(--soft); font-size: .9rem; }
 .tree ul { margin-left: .7rem; }
 .tree li { position: relative; padding: .12rem 0 .12rem 1.3rem; white-space: nowrap; }
 .tree > li { padding-left: 0; }
-.tree li li::before { content: ""; position: absolute; left: 0; top: 0; bottom: 0; border-left: 1.5px solid var(--edge); }
+.tree li li::before { content: ""; position: absolute; left: 0; top: 0; bottom: 0;
+  border-left: 1.5px solid var(--edge); }
 .tree li li:last-child::before { bottom: auto; height: .95rem; }
-.tree li li::after { content: ""; position: absolute; left: 0; top: .95rem; width: 1rem; border-top: 1.5px solid var(--edge); }
-.step { background: var(--paper); border: 1px solid var(--edge); border-radius: 6px; padding: .1rem .5rem; display: inline-block; }
-.derivation .node { color: var(--soft); font-size: .75rem; border: 1px solid var(--edge); border-radius: 50%; padding: 0 .35em; }
+.tree li li::after { content: ""; position: absolute; left: 0; top: .95rem; width: 1rem;
+  border-top: 1.5px solid var(--edge); }
+.step { background: var(--paper); border: 1px solid var(--edge); border-radius: 6px; padding: .1rem .5rem;
+  display: inline-block; }
+.derivation .node { color: var(--soft); font-size: .75rem; border: 1px solid var(--edge); border-radius: 50%;
+  padding: 0 .35em; }
 .by { color: var(--soft); font-size: .85rem; margin-left: .3em; }
 a.by { color: var(--inner); }
 details { margin-top: .5rem; }
 summary { cursor: pointer; color: var(--soft); }
 pre { overflow: auto; margin: .4rem 0 0; }
-@media (max-width: 60rem) { main { grid-template-columns: minmax(0, 1fr); } #deck { position: static; max-height: none; } }
+@media (max-width: 60rem) { main { grid-template-columns: minmax(0, 1fr); }
+  #deck { position: static; max-height: none; } }
 @media print { #deck { position: static; max-height: none; } .scripted .derivation { display: block; }
   main { display: block; } section { border: 0; } }
 """

@@ -1,7 +1,7 @@
 """How wide a text is in a picture.
 
-The letters are reckoned as those of Helvetica, with some room. A picture tells each text's width (`textLength`), so that
-a browser with other letters sets them closer or wider, and no text gets wider than the place that it has.
+The letters are reckoned as those of Helvetica, with some room. A picture tells each text's width (`textLength`), so
+that a browser with other letters sets them closer or wider, and no text gets wider than the place that it has.
 """
 
 from __future__ import annotations
@@ -14,10 +14,10 @@ SIZE = 13.0
 """The height of the letters."""
 
 _ASCII = (
-    "278 278 355 556 556 889 667 191 333 333 389 584 278 333 278 278 556 556 556 556 556 556 556 556 556 556 278 278 584 "
-    "584 584 556 1015 667 667 722 722 667 611 778 722 278 500 667 556 833 722 778 667 778 722 667 611 722 667 944 667 "
-    "667 611 278 278 278 469 556 333 556 556 500 556 556 278 556 556 222 222 500 222 833 556 556 556 556 333 500 278 556 "
-    "500 722 500 500 500 334 260 334 584"
+    "278 278 355 556 556 889 667 191 333 333 389 584 278 333 278 278 556 556 556 556 556 556 556 556 556 556 278 278 "
+    "584 584 584 556 1015 667 667 722 722 667 611 778 722 278 500 667 556 833 722 778 667 778 722 667 611 722 667 944 "
+    "667 667 611 278 278 278 469 556 333 556 556 500 556 556 278 556 556 222 222 500 222 833 556 556 556 556 333 500 "
+    "278 556 500 722 500 500 500 334 260 334 584"
 ).split()
 WIDTHS = {chr(32 + place): int(width) / 1000 for place, width in enumerate(_ASCII)}
 

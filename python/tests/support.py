@@ -1,7 +1,7 @@
 """What the tests share: the program, the examples, and programs that play its part.
 
-The tests ask the program that the variable QSYS names, or else that of the checkout. What the program of today hasn't got
-(`explain`, `levels`, `phrase`), and how a program fails, is shown by small programs that write defined bytes.
+The tests ask the program that the variable QSYS names, or else that of the checkout. What the program of today hasn't
+got (`explain`, `levels`, `phrase`), and how a program fails, is shown by small programs that write defined bytes.
 """
 
 from __future__ import annotations

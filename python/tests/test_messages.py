@@ -142,7 +142,8 @@ class EachCause(unittest.TestCase):
             radwelio.message(Refusal(1, 2, "NewCause"), "ABC", name="d"),
             "d:1:2: error: the text is refused here: NewCause\n  1 | ABC\n    |  ^^",
         )
-        self.assertEqual(radwelio.message(Refusal(1, 2, "Unbound")), "deck:1:2: error: the text is refused here: Unbound")
+        told_alone = radwelio.message(Refusal(1, 2, "Unbound"))
+        self.assertEqual(told_alone, "deck:1:2: error: the text is refused here: Unbound")
 
 
 class Sentences(unittest.TestCase):

@@ -57,7 +57,8 @@ class Failing(ProgramCase):
         self.fails("import sys; sys.exit(42)", radwelio.ProgramFailed, "status 42, which isn't one of its own")
 
     def test_what_it_tells_on_standard_error_is_told(self) -> None:
-        self.fails("import sys; print('no such rule', file=sys.stderr); sys.exit(70)", radwelio.ProgramFailed, "no such rule")
+        script = "import sys; print('no such rule', file=sys.stderr); sys.exit(70)"
+        self.fails(script, radwelio.ProgramFailed, "no such rule")
 
     def test_half_a_block(self) -> None:
         for written, message in (
@@ -78,7 +79,8 @@ class Failing(ProgramCase):
 
     def test_other_commands_that_write_half(self) -> None:
         self.fails("print('-GRAPHE-')", radwelio.BrokenOutput, "ends inside of the graph of the deck", radwelio.graph)
-        self.fails("print('-FAIT- 3.')", radwelio.BrokenOutput, "`made` tells", lambda text, program: radwelio.made(3, program=program))
+        with self.assertRaisesRegex(radwelio.BrokenOutput, "`made` tells: -FAIT- 3."):
+            radwelio.made(3, program=self.script("print('-FAIT- 3.')"))
 
     def test_words_that_the_program_refuses(self) -> None:
         with self.assertRaisesRegex(radwelio.ProgramFailed, "refused its words .*--limit 0") as caught:
@@ -114,7 +116,7 @@ class Streams(ProgramCase):
         self.assertEqual(len(radwelio.run(b"x" * 4_000_000, program=script)), 1)
 
     def test_no_shell_reads_the_words(self) -> None:
-        script = self.script("import sys; print('usage: qsys ' + 'run|check'); sys.exit(1)", "a program; exit 3 $(false)")
+        script = self.script("import sys; print('usage: qsys run|check'); sys.exit(1)", "a program; exit 3 $(false)")
         self.assertEqual(radwelio.commands(script), ("run", "check"))
 
 
