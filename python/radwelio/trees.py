@@ -126,6 +126,15 @@ class Tree:
                 rest.append((below + branch, below + pass_by, tree.trees[place]))
         return "\n".join(lines)
 
+    def svg(self) -> str:
+        """A picture of the tree; see `radwelio.svg`."""
+        from .pictures import svg
+
+        return svg(self)
+
+    def _repr_svg_(self) -> str:
+        return self.svg()
+
     def to_nltk(self) -> Any:
         """The tree as one of nltk (which has to be installed), whose leaves below the root are strings."""
         import nltk  # type: ignore

@@ -131,7 +131,8 @@ class Values(unittest.TestCase):
         block = radwelio.run(example("sentence"))[-1]
         assert block.graph is not None
         self.assertEqual(block.graph.arcs[0].tree, Tree("P"))
-        self.assertTrue(block.graph._repr_svg_().startswith("<svg "))
+        for shown in (block, block.graph, block.graph.arcs[0].tree):
+            self.assertTrue((shown._repr_svg_() or "").startswith("<svg "))  # type: ignore[attr-defined]
 
 
 class Conversions(unittest.TestCase):

@@ -42,6 +42,10 @@ class Charts(unittest.TestCase):
                 self.assertLessEqual(width_of(line), width)
         self.assertEqual(Graph(()).chart(), "(nothing is left)")
 
+    def test_a_long_chain_is_told_arc_by_arc(self) -> None:
+        chain = Graph(tuple(Arc(node, node + 1, Tree("A")) for node in range(1, 20_000)))
+        self.assertEqual(chain.chart().split("\n")[-1], "19999 to 20000  A")
+
     def test_each_arc_has_its_span_between_its_nodes(self) -> None:
         graph = radwelio.graph(example("lattice"))
         head, *lines = graph.chart().split("\n")
