@@ -8,7 +8,9 @@ if TYPE_CHECKING:
     from .outputs import Refusal
 
 STATUSES = {
+    0: "the program ended as if all were well, and wrote no answer",
     1: "the program refused its words",
+    2: "the program ended as if it had refused the text, and wrote no refusal",
     4: "the program could not read its input",
     5: "the text has more than 4,194,304 bytes, which is the most that the program reads",
     6: "the program could not write its output to its end",

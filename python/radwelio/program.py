@@ -20,8 +20,8 @@ from .outputs import USAGE, Lines, read_refusal
 Text = Union[str, bytes, IO[bytes], IO[str]]
 """A text to be read: a string, its bytes in UTF-8, or an open file."""
 
-ANSWERS = (0, 2, 3)
-"""The statuses with which the program has answered: done, refused, and limit met."""
+DONE, REFUSED, LIMIT = 0, 2, 3
+"""The statuses with which the program has answered: all is written, the text is refused, a grammar met the limit."""
 
 HOW = """there is no program qsys. It is looked for in this order:
   1. the program that is named (the argument program=.., or --program ..);
@@ -133,7 +133,10 @@ class Running:
         """The lines that it writes, each with its line feed, as soon as they are there."""
         stream: Any = self._process.stdout
         for line in stream:
-            yield line.decode("utf-8", "replace")
+            try:
+                yield line.decode("utf-8")
+            except UnicodeDecodeError:
+                raise BrokenOutput("what the program wrote isn't UTF-8") from None
         self.end()
         if self._fault is not None:
             raise self._fault
@@ -144,9 +147,9 @@ class Running:
             thread.join()
         self.status = self._process.wait()
 
-    def answer(self) -> None:
-        """Raises `ProgramFailed` where the program, which has ended, gave no answer."""
-        if self.status not in ANSWERS:
+    def answer(self, *statuses: int) -> None:
+        """Raises `ProgramFailed` where the program, which has ended, ended with none of these statuses."""
+        if self.status not in statuses:
             raise ProgramFailed(self.words, self.status if self.status is not None else 70, self.told)
 
     def __enter__(self) -> Running:
@@ -173,8 +176,10 @@ def asked(program: Program, words: Sequence[str], text: Text) -> Iterator[str]:
         lines = Lines(running)
         try:
             refusal = read_refusal(lines)
-            if refusal is not None and not lines.peek():
-                running.answer()
+            if refusal is not None:
+                if lines.peek():
+                    raise BrokenOutput("behind a refusal more is written")
+                running.answer(REFUSED)
                 raise Refused(refusal, _bytes(text))
             usage = USAGE.match(lines.peek())
             if usage and words and words[0] not in usage.group(1).split("|"):
@@ -187,9 +192,9 @@ def asked(program: Program, words: Sequence[str], text: Text) -> Iterator[str]:
                 yield lines.take("a line")
         except BrokenOutput:
             running.end()
-            running.answer()  # where the program failed, this says it better
+            running.answer(DONE, REFUSED, LIMIT)  # where the program failed, this says it better
             raise
-        running.answer()
+        running.answer(DONE, LIMIT)
 
 
 def _bytes(text: Text) -> Optional[bytes]:

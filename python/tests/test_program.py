@@ -72,10 +72,18 @@ class Failing(ProgramCase):
             ("# A 1\n-GRAPHE-\n-1- X( -2-.\n-FIN-\n", "no label stands"),
             ("# A 1\n-GRAPHE-\n-1- X 2-.\n-FIN-\n", "this is no arc"),
             ("hello\n", "where a block should begin stands: hello"),
-            ("\xff\n", "where a block should begin"),
+            ("ÿ\n", "where a block should begin"),
+            ("-REFUS- 1 1 Syntax.\n# A 0\n", "behind a refusal more is written"),
         ):
             with self.subTest(written):
                 self.fails(f"import sys; sys.stdout.write({written!r})", radwelio.BrokenOutput, message)
+
+    def test_what_is_no_text(self) -> None:
+        self.fails(r"import sys; sys.stdout.buffer.write(b'# \xff 0\n')", radwelio.BrokenOutput, "isn't UTF-8")
+
+    def test_a_status_that_does_not_fit_what_is_written(self) -> None:
+        self.fails("import sys; print('# A 0\\n-VIDE-.'); sys.exit(2)", radwelio.ProgramFailed, "wrote no refusal")
+        self.fails("print('-REFUS- 1 1 Syntax.')", radwelio.ProgramFailed, "as if all were well")
 
     def test_other_commands_that_write_half(self) -> None:
         self.fails("print('-GRAPHE-')", radwelio.BrokenOutput, "ends inside of the graph of the deck", radwelio.graph)
