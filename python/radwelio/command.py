@@ -31,7 +31,7 @@ Shows what the program qsys makes of a deck: as a page, a picture, a chart, or t
 deck, where it is wrong. Every graph that is shown is one that the program wrote."""
 
 EXAMPLES = """\
-a first hour:
+for a first hour ("python3 -m radwelio" in place of "%(prog)s" where the package isn't installed):
   %(prog)s check deck.qs                   is the deck accepted? if not: where not, why, and what could stand there
   %(prog)s chart deck.qs                   what is left, in the terminal: a line for each arc
   %(prog)s chart deck.qs --input           the graph of the deck, before any grammar

@@ -1,12 +1,14 @@
 """Refusals as messages: each cause with its whole message."""
 
+import re
 import unittest
-from typing import Optional, Union
+from typing import Union
 
 import radwelio
 from radwelio import Refusal, Refused
+from radwelio.messages import CAUSES
 
-from .support import example
+from .support import TOP, example
 
 
 def told(text: Union[str, bytes], name: str = "deck.qs", color: bool = False) -> str:
@@ -122,10 +124,11 @@ class EachCause(unittest.TestCase):
                 self.assertEqual(told(example(f"refused-{name}")), wanted)
 
     def test_all_causes_are_shown(self) -> None:
-        from radwelio.messages import CAUSES
-
         names = {"".join(part.capitalize() for part in name.split("-")) for name in OF_EXAMPLES}
-        self.assertEqual({name.replace("Utf8", "Utf8") for name in names} | {"TooManyArcs"}, set(CAUSES))
+        self.assertEqual(names | {"TooManyArcs"}, set(CAUSES))
+        language = (TOP / "docs" / "LANGUAGE.md").read_text(encoding="utf-8")
+        table = language.partition("\n## Refusals\n")[2].partition("\nAn example of each")[0]
+        self.assertEqual(set(re.findall("`([A-Z][A-Za-z0-9]+)`", table)), set(CAUSES))
 
     def test_too_many_arcs(self) -> None:
         text = "-SYSTEME- S.\n-GRAPHE-\n-1- LE" + " + LE" * 65540 + " -2-.\n-FIN-\n"
@@ -237,9 +240,8 @@ class Expected(unittest.TestCase):
 
 
 class Shown(unittest.TestCase):
-    def caret(self, line: str, name: Optional[str] = None) -> str:
-        lines = told(rule(line)).split("\n")
-        return "\n".join(lines[1:3])
+    def caret(self, line: str) -> str:
+        return "\n".join(told(rule(line)).split("\n")[1:3])
 
     def test_wide_characters_take_two_columns(self) -> None:
         self.assertEqual(self.caret("猫 == 犬犬 = A."), "  3 | 猫 == 犬犬 = A.\n    |            ^")
@@ -270,8 +272,6 @@ class Shown(unittest.TestCase):
         plain, colored = told(rule("A = B.")), told(rule("A = B."), color=True)
         self.assertIn("\x1b[1;31merror:\x1b[0m", colored)
         self.assertIn("\x1b[1;31m^\x1b[0m", colored)
-        import re
-
         self.assertEqual(re.sub("\x1b\\[[0-9;]*m", "", colored), plain)
 
 
