@@ -8,6 +8,7 @@ from __future__ import annotations
 
 import difflib
 import re
+from concurrent.futures import ThreadPoolExecutor
 from typing import Callable, Dict, List, Optional, Sequence, Set, Tuple, Union
 
 from .columns import cut, width_of, width_of_character
@@ -122,9 +123,10 @@ def expected(text: str, refusal: Refusal, program: Union[None, str, Program] = N
         front += "\n" if "#" in front.rsplit("\n", 1)[-1] else " "
     ends = Places(front)
     line, column = len(ends), ends.column_of(len(front))
+    with ThreadPoolExecutor(8) as pool:
+        answers = list(pool.map(lambda kind: _answer(found, front + kind[0]), KINDS))
     could = []
-    for token, kind in KINDS:
-        answer = _answer(found, front + token)
+    for (_, kind), answer in zip(KINDS, answers):
         if answer is None or (answer.line, answer.column) != (line, column) or answer.cause not in UNREAD:
             could.append(kind)
     if refusal.line < len(places) or places.place(refusal.line, refusal.column) < len(text):

@@ -4,6 +4,7 @@ from __future__ import annotations
 
 import re
 from dataclasses import dataclass, field
+from functools import cached_property
 from typing import Dict, Iterable, Iterator, List, Optional, Tuple
 
 from .errors import BrokenOutput
@@ -60,7 +61,7 @@ class Derivation:
     number: int
     arc: Arc
     rule: Optional[int] = None
-    below: Tuple["Derivation", ...] = field(default=(), repr=False)
+    below: Tuple["Derivation", ...] = field(default=(), repr=False, compare=False)
 
 
 @dataclass(frozen=True)
@@ -76,6 +77,15 @@ class Support:
         arcs = "".join(f"# arc {number} {arc.text}\n" for number, arc in self.arcs.items())
         return arcs + "".join(firing.text + "\n" for firing in self.firings)
 
+    @cached_property
+    def _by(self) -> Dict[int, Firing]:
+        """For each arc that a firing gave the first such firing."""
+        by: Dict[int, Firing] = {}
+        for firing in self.firings:
+            for given in firing.gives:
+                by.setdefault(given, firing)
+        return by
+
     def left(self, graph: Graph) -> Tuple[int, ...]:
         """The numbers of the arcs of the graph that was left, in its order: those that no firing used."""
         used = {number for firing in self.firings for number in firing.path}
@@ -90,17 +100,13 @@ class Support:
 
         Arcs that came about together share what is below them, so this is small; written out as a tree it may be large.
         """
-        by: Dict[int, Firing] = {}
-        for one in self.firings:
-            for given in one.gives:
-                by.setdefault(given, one)
         made: Dict[int, Derivation] = {}
         rest = [number]
         while rest:
             arc = rest[-1]
             if arc not in self.arcs:
                 raise BrokenOutput(f"`explain` tells of no arc {arc}")
-            firing = by.get(arc)
+            firing = self._by.get(arc)
             path = () if firing is None else firing.path
             missing = [below for below in path if below not in made]
             if arc in made or not missing:

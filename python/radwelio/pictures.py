@@ -79,7 +79,9 @@ def _graph_picture(
         title = f"<title>{escape(visible(arc.text))}</title>"
         group = f'<g class="arc" data-arc="{place}">{title}{inside}</g>'
         target = links(place) if links else None
-        boxes.append(f"<a href={quoteattr(target)}>{group}</a>" if target else group)
+        if target:
+            group = f"<a href={quoteattr(target)} aria-label={quoteattr(visible(arc.text))}>{group}</a>"
+        boxes.append(group)
     starts = {arc.start for arc in graph.arcs}
     ends = {arc.end for arc in graph.arcs}
     heads = [
