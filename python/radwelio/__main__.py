@@ -1,0 +1,8 @@
+"""`python3 -m radwelio`: see `radwelio.command`."""
+
+import sys
+
+from .command import main
+
+if __name__ == "__main__":
+    sys.exit(main())
