@@ -65,6 +65,15 @@
   (unless (string= (buffer-string) "# A == B.\n")
     (fail "commented otherwise: %s" (buffer-string))))
 
+;; The grammars of a deck.
+(require 'imenu)
+(with-temp-buffer
+  (insert-file-contents "examples/cascade.qs")
+  (qsys-mode)
+  (let ((found (sort (delq nil (mapcar (lambda (it) (and (cdr it) (car it))) (imenu--make-index-alist t))) #'string<)))
+    (unless (member "PHRASES" found)
+      (fail "the grammars found are %s" found))))
+
 ;; A refusal leads to its line and column, in characters, behind accents and a tab.
 (dolist (it '(("# \n-SYSTEME- S.\nGN(I*) == P(I*,J*).\n-GRAPHE- -1- A -2-. -FIN-\n" "J*).")
               ("-SYSTEME- S.\n\nÉÉ(\tI*) == P(I*,K*).\n-GRAPHE- -1- A -2-. -FIN-\n" "K*).")))

@@ -5,8 +5,8 @@
 
 ;;; Commentary:
 
-;; A major mode for decks of Q-systems (qsys(5)), files NAME.qs: colours, comments, indentation, and two commands that run the
-;; program on the file.
+;; A major mode for decks of Q-systems (qsys(5)), files NAME.qs: colours, comments, indentation, the grammars of a deck in a
+;; menu, and two commands that run the program on the file.
 ;;
 ;;   C-c C-c   `qsys-check': is the deck accepted?  \\[next-error] goes to the line and the column of a refusal.
 ;;   C-c C-r   `qsys-run': what the grammars leave.
@@ -149,6 +149,7 @@ With a prefix argument, LIMIT is how many firings each grammar is allowed."
   (setq-local comment-start-skip "#+[ \t]*")
   (setq-local syntax-propertize-function qsys-syntax-propertize)
   (setq-local font-lock-defaults '(qsys-font-lock-keywords))
+  (setq-local imenu-generic-expression '((nil "^-SYSTEME-[ \t]*\\(\\sw+\\)" 1)))
   (setq-local indent-line-function #'qsys-indent-line)
   (setq-local indent-tabs-mode nil))
 
