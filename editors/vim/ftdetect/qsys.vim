@@ -1,0 +1,2 @@
+" Decks of Q-systems are files NAME.qs.
+autocmd BufNewFile,BufRead *.qs setfiletype qsys
