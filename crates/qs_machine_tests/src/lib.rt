@@ -7,6 +7,8 @@ mod firing_tests;
 #[cfg(test)]
 mod graph_tests;
 #[cfg(test)]
+mod join_tests;
+#[cfg(test)]
 mod match_tests;
 #[cfg(test)]
 mod merging_tests;
