@@ -3,7 +3,7 @@ use Rattle.std.proofs.Common.{◌≡◌, ℕ, ◌-◌, ◌<◌, ◌≤◌, inl, 
 use Rattle.std.specs.Option.{option_map}
 use Rattle.std.proofs.lemmas.Option.{slice_get-map}
 use Rattle.qs_tree.specs.Lists.{◌∈◌}
-use Rattle.qs_tree.proofs.Members.{in_append_left, in_append_right, from_append}
+use Rattle.qs_tree.proofs.Members.{from_append}
 use Rattle.qs_pattern.specs.Patterns.{count}
 use Rattle.qs_pattern.specs.Substitutions.{Substitution}
 use Rattle.qs_pattern.specs.Instances.{IsMatch}

@@ -1,11 +1,13 @@
 //! Tests of the values that rules act on: labels and trees, variables and substitutions, graphs, firings and
-//! matches; and of what unique grammars leave.
+//! matches; of the work of an arc; and of what unique grammars leave.
 #![tactic(auto)]
 
 #[cfg(test)]
 mod firing_tests;
 #[cfg(test)]
 mod graph_tests;
+#[cfg(test)]
+mod join_tests;
 #[cfg(test)]
 mod match_tests;
 #[cfg(test)]

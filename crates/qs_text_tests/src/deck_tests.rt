@@ -1,6 +1,6 @@
 //! What is read of small decks: the numbers of their labels, grammars and rules, and a refusal in words.
 
-use qs_deck::{Deck, DeckEnd, System, read_deck};
+use qs_deck::{Deck, DeckEnd, System, read_deck, write_deck};
 use qs_graph::Edge;
 use qs_tree::{Label, Names};
 
@@ -94,4 +94,50 @@ fn a_refusal_is_told_in_words(rt: HostRuntime) {
     assert!(rt; told.as_str() == "line 2, column 3: BadCharacter");
     let wanting = format!(in alloc; "{}", DeckEnd::Memory).expect(&rt, "its words");
     assert!(rt; wanting.as_str() == "there is no memory");
+}
+
+/// Whether these are the grammars with their marks.
+fn are_marked(systems: &[System], wanted: &[bool]) -> bool {
+    for (system, unique) in systems.iter().zip(wanted) {
+        if system.unique != *unique {
+            return false;
+        }
+    }
+    systems.len() == wanted.len()
+}
+
+#[test]
+fn a_deck_has_the_version_and_the_marks_of_its_text_and_is_written_with_them(rt: HostRuntime) {
+    let rows = [
+        (
+            "-SYSTEME- S. -GRAPHE- -1- \"2\" -2-. -FIN-",
+            1,
+            [false].as_slice(),
+            "-SYSTEME- S.\n-GRAPHE-\n-1- 2 -2-.\n-FIN-\n",
+        ),
+        (
+            "# Z\n-VERSION-2.-SYSTEME- 2-UNIQUE-.A==B/A-EGAL-2. -SYSTEME- S.-GRAPHE--1-A-2-.-FIN-",
+            2,
+            &[true, false],
+            "-VERSION- 2.\n-SYSTEME- 2 -UNIQUE-.\nA == B / A -EGAL- 2.\n-SYSTEME- S.\n-GRAPHE-\n-1- A -2-.\n-FIN-\n",
+        ),
+        (
+            "-VERSION- 2. -SYSTEME- S. -GRAPHE- -1- A -2-. -FIN-",
+            2,
+            &[false],
+            "-VERSION- 2.\n-SYSTEME- S.\n-GRAPHE-\n-1- A -2-.\n-FIN-\n",
+        ),
+    ];
+    for (text, version, marks, written) in rows {
+        assert!(rt; text.len() <= 4_194_304);
+        let deck = read_deck(rt.alloc(), text.as_bytes()).expect(&rt, text);
+        assert!(rt;
+            deck.version == version && are_marked(&deck.systems, marks),
+            "at {}",
+            text
+        );
+        let mut out = Vec::new(rt.alloc());
+        write_deck(rt.alloc(), &deck, &mut out).expect(&rt, text);
+        assert!(rt; out.as_slice() == written.as_bytes(), "at {}", text);
+    }
 }

@@ -1,4 +1,4 @@
-use Rattle.std.proofs.Common.{◌≡◌, ◌<◌, length, ⊎_elim, Some, ap, ◌∙◌, sym, arith}
+use Rattle.std.proofs.Common.{◌<◌, length, ⊎_elim, Some, ap, ◌∙◌, sym, arith}
 use Rattle.qs_tree.proofs.Members.{in_at, at_place}
 use Rattle.qs_tree.specs.Trees.{Tree}
 use Rattle.qs_pattern.specs.Patterns.{count}
