@@ -10,6 +10,9 @@ decks are run. The kinds of decks to close, with n for a number:
     made     Ti(I*) + Ti(J*) == Tj(I*) for i from 0 to n - 1 and j = i + 1, on a chain of 2^n trees
     amb      N(I*) + N(J*) == N(P(I*,J*)) on a chain of n trees: all ways to put them in pairs
     eq       N + N == N on a chain of n labels: as many firings, with equal trees
+    apart    the deck of amb with its grammar marked -UNIQUE-: no two trees are equal, so none is met
+    merged   that of eq with its grammar marked: a firing for each way to part each stretch of the chain in two
+    million  A == B1 up to A == B16 on a chain of n labels: 16 n firings, each of which leaves an arc
     split    A(U*,V*) == B(C(U*),D(V*)) on one tree with n trees below its root, so n + 1 trees of n trees each
     two      A(I*) == B(I*) and B(I*) == C(I*) on a chain of n small trees
     left     S + W == S on S and n labels W: n rounds with one firing each
@@ -19,7 +22,7 @@ decks are run. The kinds of decks to close, with n for a number:
     cascade  16 grammars behind each other, each of which rewrites each of n small trees: 16 n firings
     phrases  the same on n trees with twelve trees below their roots
 
-Each is run by `run --limit 100000`; how many firings there were and how many arcs are left is compared with what is known by
+Each is run by `run --limit 100000`, or 1000000 where it needs more; how many firings there were and how many arcs are left is compared with what is known by
 counting. Texts of equal rules, and of rules of which each has a label of its own, go through `check`, and long graphs through
 `graph`. For each size there are the least seconds of RUNS (3) runs, user and system time together, the peak memory, and the
 seconds for each firing (for each n in lexicon and star), byte or arc, without those of a deck with one label, as a ratio to
@@ -39,7 +42,7 @@ import tempfile
 TOP = os.path.dirname(os.path.dirname(os.path.abspath(__file__)))
 PROGRAM = os.path.join(TOP, "crates", "qsys", "out", "qsys")
 PEERS = ("swipl", "gprolog", "clingo", "clips", "maude")
-RUN = ["run", "--limit", "100000"]
+
 
 
 # The program is started by a child that is forked before any text is made: a process is charged with the memory of the one
@@ -125,6 +128,23 @@ def eq(n):
     return (chain(["N + N == N."], ["N"] * n),) + pairings(n)
 
 
+def marked(text):
+    return "-VERSION- 2.\n" + text.replace("-SYSTEME- M.", "-SYSTEME- M -UNIQUE-.")
+
+
+def apart(n):
+    text, firings, arcs = amb(n)
+    return marked(text), firings, arcs
+
+
+def merged(n):
+    return marked(eq(n)[0]), (n**3 - n) // 6, 1
+
+
+def million(n):
+    return chain(["A == B%d." % i for i in range(1, 17)], ["A"] * n), 16 * n, 16 * n
+
+
 def split(n):
     tree = "A(%s)" % ",".join("W%d" % i for i in range(1, n + 1))
     return chain(["A(U*,V*) == B(C(U*),D(V*))."], [tree]), n + 1, n + 1
@@ -161,10 +181,15 @@ def phrases(n):
 
 
 CLOSED = (
-    (made, (10, 11, 12, 13)), (amb, (9, 10, 11)), (eq, (9, 10, 11)), (split, (500, 1000, 2000)), (two, (12500, 25000, 50000)),
+    (made, (10, 11, 12, 13)), (amb, (9, 10, 11)), (eq, (9, 10, 11)), (apart, (9, 10, 11)),
+    (merged, (20, 40, 80)), (million, (15625, 31250, 62500)), (split, (500, 1000, 2000)), (two, (12500, 25000, 50000)),
     (left, (1000, 2000, 4000, 8000)), (words, (1250, 2500, 5000, 10000)), (lexicon, (12500, 25000, 50000)),
     (star, (500, 1000, 2000)), (cascade, (15625, 31250, 62500)),
     (phrases, (5000, 10000, 20000)))
+
+
+def run_within(firings):
+    return ["run", "--limit", "100000" if firings <= 100000 else "1000000"]
 
 
 def closures(timers, kinds):
@@ -176,7 +201,7 @@ def closures(timers, kinds):
         for n in sizes:
             text, firings, arcs = make(n)
             for timer in timers:
-                seconds, memory, written = timer.least(RUN, text)
+                seconds, memory, written = timer.least(run_within(firings), text)
                 # The last block is that of the last grammar; where there is one, it is the whole.
                 lines = written[written.rindex(b"# "):].split(b"\n")
                 if lines[0] != b"# M %d" % firings or len(lines) != arcs + 4:
