@@ -1,7 +1,9 @@
 //! Tests of the values that rules act on: labels and trees, variables and substitutions, graphs, firings and
-//! matches; of the work of an arc; and of what unique grammars leave.
+//! matches; of the work of an arc; of the machine of steps; and of what unique grammars leave.
 #![tactic(auto)]
 
+#[cfg(test)]
+mod core_tests;
 #[cfg(test)]
 mod firing_tests;
 #[cfg(test)]
