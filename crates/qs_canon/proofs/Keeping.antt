@@ -1,12 +1,11 @@
 -- What the rounds keep: each stage is a valid graph with the entry and the exit of the start, and the path of each done
 -- firing is a path of it.
-use Rattle.std.proofs.Common.{◌≡◌, ◌⊎◌, ◌↔◌, ℕ, zero, suc, ◌+◌, ◌<◌, List, [], ◌∷◌, ◌++◌, length, map, Option, Some, None, unwrap_or, refl, sym, ◌∙◌, ap, subst, inl, inr, ⊎_elim, arith}
-use Rattle.std.specs.Option.{option_map}
+use Rattle.std.proofs.Common.{◌≡◌, ◌⊎◌, ◌↔◌, ℕ, zero, suc, ◌+◌, ◌<◌, List, [], ◌∷◌, ◌++◌, length, map, Option, Some, None, refl, sym, ◌∙◌, ap, subst, inl, inr, ⊎_elim, arith}
 use Rattle.std.proofs.lemmas.List.{nil_from_length}
 use Rattle.qs_canon.proofs.Rounds.{length-after}
 use Rattle.qs_tree.specs.Lists.{◌∈◌}
 use Rattle.qs_pattern.specs.Rules.{Rule, IsAccepted}
-use Rattle.qs_graph.specs.Graphs.{Arc, QGraph, Leads, IsPath, IsEntry, IsExit, IsValid}
+use Rattle.qs_graph.specs.Graphs.{Arc, QGraph, IsPath, IsEntry, IsExit, IsValid}
 use Rattle.qs_graph.specs.Chains.{chain}
 use Rattle.qs_graph.proofs.Paths.{leads_more}
 use Rattle.qs_graph.proofs.Adding.{adding_valid, same_entry, same_exit}
@@ -14,6 +13,7 @@ use Rattle.qs_firing.specs.Firings.{Firing}
 use Rattle.qs_firing.specs.Adding.{start_of, end_of, built, added, adds, met, first_arc, meets}
 use Rattle.qs_firing.proofs.Building.{built_some}
 use Rattle.qs_firing.proofs.Merging.{met-adds, unmet-adds}
+use Rattle.qs_core.proofs.Growth.{start_is, end_is}
 use Rattle.qs_canon.specs.Rounds.{Rounds, Stage, Done, firings, after, after_one, start}
 
 -- the path of a firing is a path over these arcs
@@ -25,26 +25,11 @@ pub record HasPath (arcs : List Arc) (f : Firing) : Type 0 where
 has_path_more : (arcs more : List Arc) (f : Firing) → HasPath arcs f → HasPath (arcs ++ more) f
 has_path_more arcs more f h = record { from = h.from; to = h.to; is = record { some = h.is.some; leads = leads_more arcs more h.from f.path h.to h.is.leads } }
 
--- a path starts and ends where it is said to
-start_of-path : (arcs : List Arc) (a : ℕ) (path : List ℕ) (b : ℕ) → IsPath arcs a path b → start_of arcs path ≡ a
-start_of-path arcs a [] b p = absurd (omega (arith, p.some))
-start_of-path arcs a (k ∷ ks) b p =
-    let (arc, is, e, l) = p.leads in
-    ap (λ o. unwrap_or (option_map (λ (x : Arc). x.from) o) 0) is ∙ e
-
-end_of-leads : (arcs : List Arc) (a k : ℕ) (ks : List ℕ) (b : ℕ) → Leads arcs a (k ∷ ks) b → end_of arcs (k ∷ ks) ≡ b
-end_of-leads arcs a k [] b (arc, is, e, l) = ap (λ o. unwrap_or (option_map (λ (x : Arc). x.to) o) 0) is ∙ l
-end_of-leads arcs a k (j ∷ ks) b (arc, is, e, l) = end_of-leads arcs arc.to j ks b l
-
-end_of-path : (arcs : List Arc) (a : ℕ) (path : List ℕ) (b : ℕ) → IsPath arcs a path b → end_of arcs path ≡ b
-end_of-path arcs a [] b p = absurd (omega (arith, p.some))
-end_of-path arcs a (k ∷ ks) b p = end_of-leads arcs a k ks b p.leads
-
 -- the firing leads between the ends that the definitions compute
 own_path : (arcs : List Arc) (f : Firing) → HasPath arcs f → IsPath arcs (start_of arcs f.path) f.path (end_of arcs f.path)
 own_path arcs f h =
-    subst (λ a. IsPath arcs a f.path (end_of arcs f.path)) (sym (start_of-path arcs h.from f.path h.to h.is))
-    (subst (λ b. IsPath arcs h.from f.path b) (sym (end_of-path arcs h.from f.path h.to h.is)) h.is)
+    subst (λ a. IsPath arcs a f.path (end_of arcs f.path)) (sym (start_is arcs h.from f.path h.to h.is))
+    (subst (λ b. IsPath arcs h.from f.path b) (sym (end_is arcs h.from f.path h.to h.is)) h.is)
 
 -- H is a valid graph with the entry and the exit of G
 record StaysAs (G H : QGraph) : Type 0 where

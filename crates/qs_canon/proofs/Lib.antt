@@ -5,3 +5,13 @@ pub mod Keeping
 pub mod Growing
 pub mod Naming
 pub mod MergingClosures
+pub mod Histories
+pub mod Counting
+pub mod Stages
+pub mod Same
+pub mod Results
+pub mod Carried
+pub mod Reached
+pub mod Law
+pub mod Runs
+pub mod RunExamples

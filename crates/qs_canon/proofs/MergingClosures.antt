@@ -29,7 +29,7 @@ at_start-class = one (rule A (B ∷ [])) (tt, tt, tt)
 circle-class : AreLeftSidesInClass circle
 circle-class = two (rule A (B ∷ [])) (rule B (A ∷ [])) (tt, tt, tt) (tt, tt, tt)
 
-either-class : AreLeftSidesInClass either
+pub either-class : AreLeftSidesInClass either
 either-class = two (rule A (B ∷ [])) (rule C (B ∷ [])) (tt, tt, tt) (tt, tt, tt)
 
 -- a stage and its next round

@@ -1,4 +1,6 @@
 pub mod Rounds
 pub mod Closures
+pub mod Carrying
 pub mod Merging
+pub mod RunExamples
 pub mod working

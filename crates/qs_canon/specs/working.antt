@@ -1,2 +1,3 @@
 -- Working definitions: private functions and proofs need them, and no public contract cites one.
 pub mod Codes
+pub mod Same

@@ -4,6 +4,7 @@
 mod closure;
 pub mod examples;
 pub mod laws;
+pub mod run_laws;
 
 pub use closure::{Closure, Placed};
 pub use std::alloc::AllocError as Memory;

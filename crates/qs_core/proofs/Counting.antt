@@ -7,7 +7,7 @@ use Rattle.qs_core.specs.Growth.{AllApart}
 use Rattle.qs_core.specs.Keeps.{AreFirst}
 
 -- a list without one of its members
-without : {Y : Type 0} (ys : List Y) (y : Y) → y ∈ ys → (rest : List Y) × (length ys ≡ suc (length rest)) × ((z : Y) → z ∈ ys → (z ≡ y) ⊎ (z ∈ rest))
+pub without : {Y : Type 0} (ys : List Y) (y : Y) → y ∈ ys → (rest : List Y) × (length ys ≡ suc (length rest)) × ((z : Y) → z ∈ ys → (z ≡ y) ⊎ (z ∈ rest))
 without [] y i = absurd i
 without (x ∷ ys) y (inl e) = (ys, refl, λ z j. ⊎_elim (λ d. inl (d ∙ sym e)) inr j)
 without (x ∷ ys) y (inr i) =

@@ -131,7 +131,7 @@ steps_more B S [] T v U e m = (U, subst (λ X. Makes B X v U) (sym e) m, refl)
 steps_more B S (w ∷ ws) T v U (X, s, r) m = (X, s, steps_more B X ws T v U r m)
 
 -- in a closed state all firings are done
-exists_at : {X : Type 0} (xs : List X) (m : ℕ) → m < length xs → (x : X) × (slice_get xs m ≡ Some x)
+pub exists_at : {X : Type 0} (xs : List X) (m : ℕ) → m < length xs → (x : X) × (slice_get xs m ≡ Some x)
 exists_at [] m h = absurd (omega arith)
 exists_at (x ∷ xs) zero h = (x, refl)
 exists_at (x ∷ xs) (suc m) h = exists_at xs m (omega arith)
