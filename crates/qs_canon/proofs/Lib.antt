@@ -15,3 +15,8 @@ pub mod Reached
 pub mod Law
 pub mod Runs
 pub mod RunExamples
+pub mod CanonCounts
+pub mod CanonNumbers
+pub mod Canonical
+pub mod CanonEnd
+pub mod CanonStart

@@ -4,7 +4,11 @@
 mod closure;
 pub mod examples;
 pub mod laws;
+mod numbering;
+mod numbers;
+mod record_laws;
 pub mod run_laws;
+mod waiting;
 
 pub use closure::{Closure, Placed};
 pub use std::alloc::AllocError as Memory;

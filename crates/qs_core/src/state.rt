@@ -5,7 +5,7 @@ ghost use Rattle.std.specs.Prelude.{Some};
 ghost use Rattle.qs_tree.specs.Lists.{◌∈◌};
 ghost use Rattle.qs_pattern.specs.Limits.{most_patterns};
 ghost use Rattle.qs_pattern.specs.Rules.{Rule as RuleOfPatterns, IsAccepted, all_unique};
-ghost use Rattle.qs_graph.specs.Graphs.{Arc as GraphArc, IsEntry, IsExit};
+ghost use Rattle.qs_graph.specs.Graphs.{Arc as GraphArc, IsValid, IsEntry, IsExit};
 ghost use Rattle.qs_core.specs.Runs.{IsReplayed};
 ghost use Rattle.qs_core.specs.Answers.{opened, IsEnd};
 
@@ -171,9 +171,10 @@ impl State {
         self.stop
     }
 
-    /// The rules. Takes no memory.
+    /// The rules, which are accepted ones. Takes no memory.
     pub fn rules(&self) -> &[Rule]
-        ensures { result.now ≡ self.now.machine.base.rules }
+        ensures value { result.now ≡ self.now.machine.base.rules }
+        ensures accepted { (rule : RuleOfPatterns) → rule ∈ self.now.machine.base.rules → IsAccepted rule }
     {
         &self.rules
     }
@@ -192,23 +193,28 @@ impl State {
         self.statuses.seats()
     }
 
-    /// The number of arcs with which it started. Takes no memory.
+    /// The number of arcs with which it started. It leaves room for 16 arcs for each firing that may be done. Takes no
+    /// memory.
     pub fn start_arcs(&self) -> u32
-        ensures { result ≡ length self.now.machine.base.start.arcs }
+        ensures value { result ≡ length self.now.machine.base.start.arcs }
+        ensures fit { length self.now.machine.base.start.arcs + most_patterns * self.now.machine.base.limit < 2 ^ 32 }
     {
         self.start_arcs
     }
 
-    /// The number of nodes with which it started. Takes no memory.
+    /// The number of nodes with which it started. It leaves room for 16 nodes for each firing that may be done. Takes
+    /// no memory.
     pub fn start_nodes(&self) -> u32
-        ensures { result ≡ self.now.machine.base.start.nodes }
+        ensures value { result ≡ self.now.machine.base.start.nodes }
+        ensures fit { self.now.machine.base.start.nodes + most_patterns * self.now.machine.base.limit < 2 ^ 32 }
     {
         self.start_nodes
     }
 
-    /// The entry of the graph from which it started. Takes no memory.
+    /// The entry of the graph from which it started, which is valid. Takes no memory.
     pub fn entry(&self) -> u32
-        ensures { IsEntry self.now.machine.base.start result }
+        ensures value { IsEntry self.now.machine.base.start result }
+        ensures valid { IsValid self.now.machine.base.start }
     {
         self.entry
     }

@@ -18,8 +18,8 @@ use std::process::Abort;
 
 /// A machine, and what each of its seats has claimed: an arc, with the number of the firings of its work that are done.
 #[derive(Drop)]
-struct Run {
-    state: State,
+pub struct Run {
+    pub state: State,
     held: Vec<Option<(u32, u32)>>,
 }
 
@@ -37,7 +37,7 @@ fn opened<R: Abort>(rt: &R, alloc: Global, rules: &[Rule], start: &Graph, limit:
 }
 
 /// The machine of the first grammar and the graph of this text, with two seats. Neither has claimed an arc.
-fn open<R: Abort>(rt: &R, alloc: Global, text: &str, limit: u32) -> Run
+pub fn open<R: Abort>(rt: &R, alloc: Global, text: &str, limit: u32) -> Run
     ensures { AreHeld result.held.items result.state.machine.state }
 {
     assert!(rt; text.len() <= 4_194_304);
@@ -101,7 +101,7 @@ fn find_none<R: Abort>(rt: &R, alloc: Global, run: &mut Run, seat: u32)
 }
 
 /// The seat claims an arc, and the run is closed.
-fn close<R: Abort>(rt: &R, alloc: Global, run: &mut Run, seat: u32)
+pub fn close<R: Abort>(rt: &R, alloc: Global, run: &mut Run, seat: u32)
     requires { AreHeld run.old.held.items run.old.state.machine.state }
     ensures { AreHeld run.new.held.items run.new.state.machine.state }
 {
@@ -126,7 +126,7 @@ fn claim_behind_limit<R: Abort>(rt: &R, alloc: Global, run: &mut Run, seat: u32)
 }
 
 /// The seat claims this arc, which waits.
-fn take_this<R: Abort>(rt: &R, alloc: Global, run: &mut Run, seat: u32, arc: u32)
+pub fn take_this<R: Abort>(rt: &R, alloc: Global, run: &mut Run, seat: u32, arc: u32)
     requires { AreHeld run.old.held.items run.old.state.machine.state }
     ensures { AreHeld run.new.held.items run.new.state.machine.state }
 {
@@ -147,7 +147,7 @@ fn miss_this<R: Abort>(rt: &R, alloc: Global, run: &mut Run, seat: u32, arc: u32
 }
 
 /// The seat rests, and what it had claimed is done.
-fn rest<R: Abort>(rt: &R, alloc: Global, run: &mut Run, seat: u32)
+pub fn rest<R: Abort>(rt: &R, alloc: Global, run: &mut Run, seat: u32)
     requires { AreHeld run.old.held.items run.old.state.machine.state }
     ensures { AreHeld run.new.held.items run.new.state.machine.state }
 {
@@ -168,7 +168,7 @@ fn rest_in_vain<R: Abort>(rt: &R, alloc: Global, run: &mut Run, seat: u32)
 }
 
 /// The seat publishes the next firing of the work of its arc, whose result begins with the arc of this number.
-fn publish<R: Abort>(rt: &R, alloc: Global, run: &mut Run, seat: u32, first: u32)
+pub fn publish<R: Abort>(rt: &R, alloc: Global, run: &mut Run, seat: u32, first: u32)
     requires { AreHeld run.old.held.items run.old.state.machine.state }
     ensures { AreHeld run.new.held.items run.new.state.machine.state }
 {
