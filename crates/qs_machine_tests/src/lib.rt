@@ -1,5 +1,5 @@
 //! Tests of the values that rules act on: labels and trees, variables and substitutions, graphs, firings and
-//! matches; of the work of an arc; of the machine of steps; and of what unique grammars leave.
+//! matches; of the work of an arc; of the machine of steps; of one worker; and of what unique grammars leave.
 #![tactic(auto)]
 
 #[cfg(test)]
@@ -20,3 +20,5 @@ mod reading;
 mod rule_tests;
 #[cfg(test)]
 mod tree_tests;
+#[cfg(test)]
+mod worker_tests;
