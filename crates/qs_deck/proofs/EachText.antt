@@ -27,9 +27,9 @@ use Rattle.qs_graphtext.specs.GraphOfChains.{AreRefused, graph_of}
 use Rattle.qs_graphtext.specs.declared.chain_end.ChainEnd.{ChainEnd}
 use Rattle.qs_graphtext.specs.declared.chain_end.ChainEnd.TheVariants as chain_end
 use Rattle.qs_graphtext.proofs.ChainDecisions.{chains_decided}
-use Rattle.qs_deck.specs.WrittenDecks.{WrittenSystem, WrittenDeck, rules_in}
+use Rattle.qs_deck.specs.WrittenDecks.{WrittenSystem, WrittenDeck, rules_of}
 use Rattle.qs_deck.specs.Grammar.{deck, line}
-use Rattle.qs_deck.specs.working.Syntax.{CannotGoOnBehind}
+use Rattle.qs_deck.specs.working.Syntax.{StopsBehind}
 use Rattle.qs_deck.specs.Checks.{IsChecked, IsCheckFault, too_many_systems, rule_not_accepted}
 use Rattle.qs_deck.specs.Decks.{Grammar, meaning_of, HasTokens, IsWritten, IsDeckOf}
 use Rattle.qs_deck.specs.Refusals.{IsGraphFault, too_many_arcs, cycle, entries, exits, byte_of, IsFault, bytes, tokens, nesting, syntax, check, graph, IsRefusalOf}
@@ -95,13 +95,13 @@ falls (of_graphs graphs.graph) = (tt, λ e. not_empty e)
 falls (of_graphs graphs.chain) = (tt, λ e. not_empty e)
 falls (of_graphs graphs.plain) = (tt, λ e. not_empty e)
 
-decided_behind : (ts : List Token) → IsWhole line (part deck) ts [] ⊎ ((at : ℕ) × CannotGoOnBehind ts at)
+decided_behind : (ts : List Token) → IsWhole line (part deck) ts [] ⊎ ((at : ℕ) × StopsBehind (part deck) ts at)
 decided_behind ts = ⊎_elim (λ w. inl w) (λ s. inr (length ts - s.0, stopped s.0 s.1)) (whole_or_stops table more ok rank 7 low falls (part deck) tt ts)
   where
-    stopped : (left : ℕ) → Stops line (part deck ∷ []) ts left → CannotGoOnBehind ts (length ts - left)
+    stopped : (left : ℕ) → Stops line (part deck ∷ []) ts left → StopsBehind (part deck) ts (length ts - left)
     stopped left s =
         let back : left ≡ length ts - (length ts - left) = omega (arith, s.left_is, ap length s.are ∙ length-append s.passed s.rest) in
-        cannot_go_on ts (length ts - left) (omega arith) (subst (λ n. Stops line (part deck ∷ []) ts n) back s)
+        cannot_go_on (part deck) ts (length ts - left) (omega arith) (subst (λ n. Stops line (part deck ∷ []) ts n) back s)
 
 -- ---- checks
 
@@ -132,14 +132,14 @@ system_at [] k l = absurd (omega arith)
 system_at (s ∷ systems) zero l = (s, refl)
 system_at (s ∷ systems) (suc k) l = system_at systems k (omega arith)
 
-checks_decided : (d : WrittenDeck) → All CanBeChecked (rules_in d) → IsChecked d ⊎ ((at : ℕ) × (cause : Cause) × IsCheckFault d at cause)
+checks_decided : (d : WrittenDeck) → All CanBeChecked (rules_of d.systems) → IsChecked d.systems ⊎ ((at : ℕ) × (cause : Cause) × IsCheckFault d.systems at cause)
 checks_decided d can =
     ⊎_elim
     (λ many. let s = system_at d.systems 256 many in inr (s.0.at, TooManySystems, too_many_systems s.0 s.1))
     (λ few. ⊎_elim
     (λ good. inl (record { few = few; accepted = good }))
     (λ f. inr (f.1, f.0, rule_not_accepted f.2.front f.2.behind f.2.raw few f.2.are f.2.accepted f.2.ends))
-    (rules_decided (rules_in d) can))
+    (rules_decided (rules_of d.systems) can))
     (cases_lt 256 (length d.systems))
 
 -- ---- graphs
@@ -160,7 +160,7 @@ IsDecided text = ((version : ℕ) × (names : List (List ℕ)) × (grammars : Li
 of_written : (text : List ℕ) (version : ℕ) (names : List (List ℕ)) (d : WrittenDeck) → IsWritten text version names d → IsDecided text
 of_written text version names d w = ⊎_elim checked (λ f. inr (f.0, f.1, check version names d w f.2)) (checks_decided d (meaning.can text version names d w))
   where
-    checked : IsChecked d → IsDecided text
+    checked : IsChecked d.systems → IsDecided text
     checked good =
         ⊎_elim
         (λ made. inl (
@@ -188,7 +188,7 @@ of_shallow text ts has =
     of_written text (version_of text) d.names d.written
     (record { version_is = refl; tokens = ts; has_tokens = has; front = w.front; body = w.body; are = w.are; in_front = w.in_front; reads = d.reads; names_are = d.names_are }))
     (λ s. inr (byte_of text ts s.0, Syntax, syntax ts s.0 has s.1))
-    (syntax_decided_by text decided_behind ts)
+    (syntax_decided_by (part deck) text decided_behind ts)
 
 of_tokens : (text : List ℕ) (ts : List Token) → IsUtf8 text → AreTokensOf text ts → IsDecided text
 of_tokens text ts utf8 are =

@@ -16,6 +16,7 @@ pub mod VersionSteps
 pub mod WholeDecks
 pub mod OneDeck
 pub mod OneFault
+pub mod OneList
 -- That what is written is read as it was.
 pub mod DecksReadBack
 pub mod WritableDecks

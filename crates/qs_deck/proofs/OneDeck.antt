@@ -82,6 +82,10 @@ module _ (names : List (List ℕ)) (text : List ℕ) where
   border [] ts rest e is = inr (subst (λ us. NextIs (the_word Graphe) us) (sym e) is)
   border (a ∷ systems) ts rest h is = inl (system_next h.1)
 
+  list_end : (systems : List WrittenSystem) (ts : List Token) → ReadsSystems names text ts systems [] → NoRuleIn ts
+  list_end [] ts e = λ t us is b. (let cut : [] ≡ t ∷ us = sym e ∙ is in absurd cc)
+  list_end (a ∷ systems) ts h = no_rule_at ts (inl (system_next h.1))
+
   -- a mark stands or doesn't
   record IsOneMark (a b : Bool) (us vs : List Token) : Type 0 where
     same : a ≡ b
@@ -123,3 +127,13 @@ module _ (names : List (List ℕ)) (text : List ℕ) where
         let at : d.graph_at ≡ e.graph_at = r.graph_at ∙ ap (λ t. t.from) (same_token systems.1) ∙ sym s.graph_at in
         let chains = (one_graph names text distinct r.graph (subst (λ us. ReadsGraph names text us e.chains []) (sym systems.1) s.graph)).0 in
         λ i. record { systems = systems.0 i; graph_at = at i; chains = chains i }
+
+    -- a list of grammars, which nothing follows
+    pub one_list : (systems others : List WrittenSystem) (ts : List Token) → ReadsSystems names text ts systems [] → ReadsSystems names text ts others [] → systems ≡ others
+    one_list [] [] ts e f = refl
+    one_list [] (b ∷ others) ts e g = absurd (subst (λ us. NextIs (the_word Systeme) us) e (system_next g.1))
+    one_list (a ∷ systems) [] ts f e = absurd (subst (λ us. NextIs (the_word Systeme) us) e (system_next f.1))
+    one_list (a ∷ systems) (b ∷ others) ts f g =
+        let here = one_system f.1 g.1 (list_end systems f.0 f.2) (list_end others g.0 g.2) in
+        let there = one_list systems others f.0 f.2 (subst (λ us. ReadsSystems names text us others []) (sym here.1) g.2) in
+        λ i. here.0 i ∷ there i

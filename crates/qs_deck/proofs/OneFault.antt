@@ -24,20 +24,22 @@ use Rattle.qs_graphtext.specs.WrittenChains.{WrittenChain}
 use Rattle.qs_graphtext.specs.GraphOfChains.{AreFew, AreRefused, graph_of}
 use Rattle.qs_graphtext.specs.declared.chain_end.ChainEnd.TheVariants as chain_end
 use Rattle.qs_deck.specs.WrittenDecks.{WrittenSystem, WrittenDeck}
-use Rattle.qs_deck.specs.Versions.{IsVersionLine, no_line, the_line, IsWholeDeck, BeginsDeck}
+use Rattle.qs_lex.specs.Grammar.{Form, part}
+use Rattle.qs_deck.specs.Grammar.{Part, deck}
+use Rattle.qs_deck.specs.Versions.{IsVersionLine, no_line, the_line, IsWholeText, BeginsText}
 use Rattle.qs_deck.specs.Reading.{ReadsDeck}
-use Rattle.qs_deck.specs.Syntax.{CannotGoOn}
+use Rattle.qs_deck.specs.Syntax.{StopsText, CannotGoOn}
 use Rattle.qs_deck.specs.working.Checked.{AreAccepted}
 use Rattle.qs_deck.specs.Checks.{IsChecked, IsCheckFault, too_many_systems, rule_not_accepted}
 use Rattle.qs_deck.specs.Decks.{Grammar, meaning_of, HasTokens, IsWritten, IsDeckOf}
 use Rattle.qs_deck.specs.Refusals.{byte_of, IsFirstTooDeep, IsGraphFault, too_many_arcs, cycle, entries, exits, IsFault, bytes, tokens, nesting, syntax, check, graph, IsRefusalOf}
-use Rattle.qs_deck.proofs.Versions.{front_begins_deck, whole_deck_begins}
+use Rattle.qs_deck.proofs.Versions.{front_begins_text, whole_text_begins}
 use Rattle.qs_deck.proofs.WholeDecks.{written_whole}
 use Rattle.qs_deck.proofs.OneDeck.{one_deck}
 
 -- ---- nesting
 
-one_too_deep : (ts : List Token) (i j : ℕ) → IsFirstTooDeep ts i → IsFirstTooDeep ts j → i ≡ j
+pub one_too_deep : (ts : List Token) (i j : ℕ) → IsFirstTooDeep ts i → IsFirstTooDeep ts j → i ≡ j
 one_too_deep ts i j a b = ⊎_elim (λ e. e) (λ o. absurd (⊎_elim (λ l. b.first i l a.deep) (λ l. a.first j l b.deep) o)) (cases_order i j)
 
 -- ---- syntax
@@ -58,22 +60,22 @@ goes_on (t ∷ ts) (suc i) (suc j) l within =
     record { token = on.token; there = on.there; more = on.more; are = ap (λ us. t ∷ us) on.are }
 
 -- no front past the place begins a deck
-none_longer : (text : List ℕ) (ts : List Token) (i j : ℕ) → i < j → j ≤ length ts → CannotGoOn text ts i → BeginsDeck text (take j ts) → ⊥
-none_longer text ts i j l within stops begins =
+none_longer : (form : Form Part) (text : List ℕ) (ts : List Token) (i j : ℕ) → i < j → j ≤ length ts → StopsText form text ts i → BeginsText form text (take j ts) → ⊥
+none_longer form text ts i j l within stops begins =
     let on = goes_on ts i j l within in
-    stops.no_further on.token on.there (front_begins_deck text (take j ts) (take i ts ++ on.token ∷ []) on.more begins on.are)
+    stops.no_further on.token on.there (front_begins_text form text (take j ts) (take i ts ++ on.token ∷ []) on.more begins on.are)
 
-one_stop : (text : List ℕ) (ts : List Token) (i j : ℕ) → CannotGoOn text ts i → CannotGoOn text ts j → i ≡ j
-one_stop text ts i j a b =
+pub one_stop : (form : Form Part) (text : List ℕ) (ts : List Token) (i j : ℕ) → StopsText form text ts i → StopsText form text ts j → i ≡ j
+one_stop form text ts i j a b =
     ⊎_elim (λ e. e)
-    (λ o. absurd (⊎_elim (λ l. none_longer text ts i j l b.within a b.begins) (λ l. none_longer text ts j i l a.within b a.begins) o))
+    (λ o. absurd (⊎_elim (λ l. none_longer form text ts i j l b.within a b.begins) (λ l. none_longer form text ts j i l a.within b a.begins) o))
     (cases_order i j)
 
-never_whole : (text : List ℕ) (ts : List Token) (i : ℕ) → CannotGoOn text ts i → IsWholeDeck text ts → ⊥
-never_whole text ts i stops whole =
-    let begins : BeginsDeck text (take (length ts) ts) = subst (λ us. BeginsDeck text us) (sym (take_all (length ts) ts (omega arith))) (whole_deck_begins whole) in
+pub never_whole : (form : Form Part) (text : List ℕ) (ts : List Token) (i : ℕ) → StopsText form text ts i → IsWholeText form text ts → ⊥
+never_whole form text ts i stops whole =
+    let begins : BeginsText form text (take (length ts) ts) = subst (λ us. BeginsText form text us) (sym (take_all (length ts) ts (omega arith))) (whole_text_begins whole) in
     ⊎_elim (λ e. stops.not_whole e whole)
-    (λ o. ⊎_elim (λ l. none_longer text ts i (length ts) l (omega arith) stops begins) (λ l. let within = stops.within in omega arith) o)
+    (λ o. ⊎_elim (λ l. none_longer form text ts i (length ts) l (omega arith) stops begins) (λ l. let within = stops.within in omega arith) o)
     (cases_order i (length ts))
 
 -- ---- checks
@@ -111,10 +113,10 @@ none_refused : (front behind : List WrittenRule) (r : WrittenRule) (c : Cause) (
 none_refused [] behind r c p ok ends = not_refused r c p (accepted_first r behind ok) ends
 none_refused (x ∷ front) behind r c p ok ends = none_refused front behind r c p (accepted_rest x (front ++ r ∷ behind) ok) ends
 
-not_many : (d : WrittenDeck) (system : WrittenSystem) → slice_get d.systems 256 ≡ Some system → length d.systems ≤ 256 → ⊥
-not_many d system there few = omega (arith, slice_get_within d.systems 256 system there)
+not_many : (systems : List WrittenSystem) (system : WrittenSystem) → slice_get systems 256 ≡ Some system → length systems ≤ 256 → ⊥
+not_many systems system there few = omega (arith, slice_get_within systems 256 system there)
 
-one_check : (d : WrittenDeck) {p q : ℕ} {c f : Cause} → IsCheckFault d p c → IsCheckFault d q f → (p ≡ q) × (c ≡ f)
+pub one_check : (systems : List WrittenSystem) {p q : ℕ} {c f : Cause} → IsCheckFault systems p c → IsCheckFault systems q f → (p ≡ q) × (c ≡ f)
 one_check d (too_many_systems a there) (too_many_systems b also) =
     let found : Some a ≡ Some b = sym there ∙ also in
     let same : a ≡ b = cc in
@@ -124,7 +126,7 @@ one_check d (rule_not_accepted front behind raw few are ok ends) (too_many_syste
 one_check d (rule_not_accepted front behind raw {at} {cause} few are ok ends) (rule_not_accepted others more rule {at = place} {cause = other} fewer is also stops) =
     first_refused front others behind more raw rule cause other at place (sym are ∙ is) ok also ends stops
 
-not_checked : (d : WrittenDeck) {p : ℕ} {c : Cause} → IsChecked d → IsCheckFault d p c → ⊥
+pub not_checked : (systems : List WrittenSystem) {p : ℕ} {c : Cause} → IsChecked systems → IsCheckFault systems p c → ⊥
 not_checked d ok (too_many_systems a there) = not_many d a there ok.few
 not_checked d ok (rule_not_accepted front behind raw {at} {cause} few are good ends) = none_refused front behind raw cause at (subst AreAccepted are ok.accepted) ends
 
@@ -179,7 +181,7 @@ record IsOneWritten (v w : ℕ) (names others : List (List ℕ)) (d e : WrittenD
   names_are : names ≡ others
   same : d ≡ e
 
-none_twice : AreDistinct []
+pub none_twice : AreDistinct []
 none_twice i j t e f = absurd cc
 
 one_written : {text : List ℕ} {v w : ℕ} {names others : List (List ℕ)} {d e : WrittenDeck} → IsWritten text v names d → IsWritten text w others e → IsOneWritten v w names others d e
@@ -194,24 +196,24 @@ one_written {text} {v} {w} {names} {others} {d} {e} a b =
     record { versions_are = versions; names_are = same_names; same = one_deck names text distinct a.reads (subst (λ ns. ReadsDeck ns text a.body e []) (sym same_names) reads) }
 
 -- so a fault of the one is a fault of the other
-check_moved : {d e : WrittenDeck} {p : ℕ} {c : Cause} → d ≡ e → IsCheckFault e p c → IsCheckFault d p c
-check_moved {p} {c} same f = subst (λ (x : WrittenDeck). IsCheckFault x p c) (sym same) f
+check_moved : {d e : WrittenDeck} {p : ℕ} {c : Cause} → d ≡ e → IsCheckFault e.systems p c → IsCheckFault d.systems p c
+check_moved {p} {c} same f = subst (λ (x : WrittenDeck). IsCheckFault x.systems p c) (sym same) f
 
 graph_moved : {d e : WrittenDeck} {p : ℕ} {c : Cause} → d ≡ e → IsGraphFault e p c → IsGraphFault d p c
 graph_moved {p} {c} same f = subst (λ (x : WrittenDeck). IsGraphFault x p c) (sym same) f
 
-same_tokens : {text : List ℕ} {ts us : List Token} → HasTokens text ts → HasTokens text us → ts ≡ us
+pub same_tokens : {text : List ℕ} {ts us : List Token} → HasTokens text ts → HasTokens text us → ts ≡ us
 same_tokens {text} {ts} {us} a b = readings.one_list text ts us a.are_tokens b.are_tokens
 
 -- tokens of which none is too deep
-deep_nowhere : {text : List ℕ} {ts us : List Token} {i : ℕ} → AreTokensOf text ts → IsFirstTooDeep ts i → HasTokens text us → ⊥
+pub deep_nowhere : {text : List ℕ} {ts us : List Token} {i : ℕ} → AreTokensOf text ts → IsFirstTooDeep ts i → HasTokens text us → ⊥
 deep_nowhere {text} {ts} {us} {i} are deep has =
     has.shallow i (subst (λ vs. IsTooDeep vs i) (readings.one_list text ts us are has.are_tokens) deep.deep)
 
 -- a written deck goes on up to its end
 goes_through : {text : List ℕ} {version : ℕ} {names : List (List ℕ)} {ts : List Token} {d : WrittenDeck} {i : ℕ} → HasTokens text ts → CannotGoOn text ts i → IsWritten text version names d → ⊥
 goes_through {text} {ts = ts} {i = i} has stops w =
-    never_whole text ts i stops (subst (IsWholeDeck text) (same_tokens w.has_tokens has) (written_whole w))
+    never_whole (part deck) text ts i stops (subst (IsWholeText (part deck) text) (same_tokens w.has_tokens has) (written_whole w))
 
 -- each phase finds a fault only where those in front of it find none
 one_fault : {text : List ℕ} {p q : ℕ} {c d : Cause} → IsFault text p c → IsFault text q d → (p ≡ q) × (c ≡ d)
@@ -241,7 +243,7 @@ one_fault {text} (syntax ts i has f) (tokens too g) = absurd (readings.not_both 
 one_fault (syntax ts i has f) (nesting us j too are g) = absurd (deep_nowhere are g has)
 one_fault {text} (syntax ts i has f) (syntax us j also g) =
     let same = same_tokens has also in
-    let index = one_stop text us i j (subst (λ vs. CannotGoOn text vs i) same f) g in
+    let index = one_stop (part deck) text us i j (subst (λ vs. CannotGoOn text vs i) same f) g in
     (λ k. byte_of text (same k) (index k), refl)
 one_fault (syntax ts i has f) (check version others e w g) = absurd (goes_through has f w)
 one_fault (syntax ts i has f) (graph version others e w ok g) = absurd (goes_through has f w)
@@ -249,13 +251,13 @@ one_fault (check version names d v f) (bytes never) = absurd (never v.has_tokens
 one_fault {text} (check version names d v f) (tokens too g) = absurd (readings.not_both text v.tokens v.has_tokens.are_tokens g)
 one_fault (check version names d v f) (nesting us j too are g) = absurd (deep_nowhere are g v.has_tokens)
 one_fault (check version names d v f) (syntax us j has g) = absurd (goes_through has g v)
-one_fault (check version names d v f) (check other others e w g) = one_check d f (check_moved (one_written v w).same g)
-one_fault (check version names d v f) (graph other others e w ok g) = absurd (not_checked e ok (check_moved (one_written w v).same f))
+one_fault (check version names d v f) (check other others e w g) = one_check d.systems f (check_moved (one_written v w).same g)
+one_fault (check version names d v f) (graph other others e w ok g) = absurd (not_checked e.systems ok (check_moved (one_written w v).same f))
 one_fault (graph version names d v ok f) (bytes never) = absurd (never v.has_tokens.utf8)
 one_fault {text} (graph version names d v ok f) (tokens too g) = absurd (readings.not_both text v.tokens v.has_tokens.are_tokens g)
 one_fault (graph version names d v ok f) (nesting us j too are g) = absurd (deep_nowhere are g v.has_tokens)
 one_fault (graph version names d v ok f) (syntax us j has g) = absurd (goes_through has g v)
-one_fault (graph version names d v ok f) (check other others e w g) = absurd (not_checked d ok (check_moved (one_written v w).same g))
+one_fault (graph version names d v ok f) (check other others e w g) = absurd (not_checked d.systems ok (check_moved (one_written v w).same g))
 one_fault (graph version names d v ok f) (graph other others e w fine g) = one_graph_fault d f (graph_moved (one_written v w).same g)
 
 no_fault : {text : List ℕ} {version : ℕ} {names : List (List ℕ)} {grammars : List Grammar} {G : QGraph} {p : ℕ} {c : Cause} → IsDeckOf text version names grammars G → IsFault text p c → ⊥
@@ -263,7 +265,7 @@ no_fault of (bytes never) = never of.is_written.has_tokens.utf8
 no_fault {text} of (tokens utf8 f) = readings.not_both text of.is_written.tokens of.is_written.has_tokens.are_tokens f
 no_fault of (nesting ts i utf8 are f) = deep_nowhere are f of.is_written.has_tokens
 no_fault of (syntax ts i has f) = goes_through has f of.is_written
-no_fault of (check version others e w f) = not_checked of.written of.checked (check_moved (one_written of.is_written w).same f)
+no_fault of (check version others e w f) = not_checked of.written.systems of.checked (check_moved (one_written of.is_written w).same f)
 no_fault of (graph version others e w ok f) =
     no_graph_fault of.written of.few (subst IsValid of.graph_is of.valid) (graph_moved (one_written of.is_written w).same f)
 

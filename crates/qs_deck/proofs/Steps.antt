@@ -1,6 +1,5 @@
 -- The steps of the readers of systems and decks.
-use Rattle.std.proofs.Common.{◌≡◌, ℕ, zero, suc, ◌+◌, ◌<◌, ◌≤◌, Bool, true, false, refl, sym, ◌∙◌, ap, subst, ⊎_elim, inl, inr, List, [], ◌∷◌, ◌++◌, length, drop, length-append, length-drop, arith}
-use Rattle.std.specs.Prelude.{◌⊎◌}
+use Rattle.std.proofs.Common.{◌≡◌, ℕ, zero, suc, ◌+◌, ◌<◌, ◌≤◌, Bool, true, false, refl, sym, ◌∙◌, ap, subst, inl, inr, List, [], ◌∷◌, ◌++◌, length, drop, length-append, length-drop, arith}
 use Rattle.std.proofs.lemmas.Bool.{false≢true}
 use Rattle.qs_lex.specs.declared.token.Token.{Token}
 use Rattle.qs_lex.specs.declared.token.Word.TheVariants.{Systeme, Graphe, Fin, Dans, Hors, Et, Ou, Non, Version, Egal, Unique}
@@ -30,7 +29,7 @@ use Rattle.qs_graphtext.specs.Refusals as graph_ends
 use Rattle.qs_graphtext.proofs.Whole.{graph_whole}
 use Rattle.qs_deck.specs.WrittenDecks.{WrittenSystem}
 use Rattle.qs_deck.specs.Grammar.{deck, system, of_rules, of_graphs, line}
-use Rattle.qs_deck.specs.Reading.{ReadsMark, no_mark, a_mark, ReadsSystem, reads_system, ReadsSystems, ReadsDeck}
+use Rattle.qs_deck.specs.Reading.{no_mark, a_mark, ReadsSystem, reads_system, ReadsSystems, ReadsDeck}
 use Rattle.qs_deck.specs.working.Readers.{table, IsRead, Ends, may_be_marked, AMark, some_rules, some_systems, one_graph, Rules, ASystem, Systems, AGraph, ADeck}
 use Rattle.qs_deck.proofs.Tables.{more, ok, rules_are, graphs_are}
 

@@ -1,10 +1,9 @@
 -- What is known of a deck that was read: its rules are well read, its names and labels are named, and texts of the version of its
 -- own tell its rules and its marks.
-use Rattle.std.proofs.Common.{◌≡◌, ℕ, ◌<◌, ◌≤◌, Bool, true, sym, subst, inl, inr, List, [], ◌∷◌, length}
-use Rattle.std.specs.List.{All, flat_map}
+use Rattle.std.proofs.Common.{◌≡◌, ℕ, ◌≤◌, Bool, true, sym, subst, inl, inr, List, [], ◌∷◌}
+use Rattle.std.specs.List.{All}
 use Rattle.std.proofs.lemmas.Bool.{false≢true}
-use Rattle.std.proofs.lemmas.List.Elements.{All-nil, All-cons, All-append, All-head, All-tail}
-use Rattle.std.proofs.lemmas.Option.{slice_get_within}
+use Rattle.std.proofs.lemmas.List.Elements.{All-head, All-tail}
 use Rattle.qs_lex.specs.declared.token.Token.{Token}
 use Rattle.qs_lex.specs.declared.token.Word.TheVariants.{Unique}
 use Rattle.qs_lex.specs.Tokens.{version_of, IsTokenOf}
@@ -12,10 +11,9 @@ use Rattle.qs_lex.proofs.Readings.{token_stands}
 use Rattle.qs_lex.proofs.Meanings.{rest_all}
 use Rattle.qs_tree.specs.Lists.{◌∈◌}
 use Rattle.qs_ruletext.specs.WrittenRules.{WrittenRule}
-use Rattle.qs_ruletext.specs.Rules.{ReadsRules, IsWellRead}
+use Rattle.qs_ruletext.specs.Rules.{ReadsRules}
 use Rattle.qs_ruletext.specs.Written.{IsRuleToldIn}
 use Rattle.qs_ruletext.proofs.Telling.{known_word, rule_in}
-use Rattle.qs_ruletext.proofs.Told.{told_rules}
 use Rattle.qs_ruletext.proofs.Whole.{rule_whole}
 use Rattle.qs_deck.specs.WrittenDecks.{WrittenSystem}
 use Rattle.qs_deck.specs.Reading.{ReadsMark, no_mark, a_mark, ReadsSystem, reads_system, ReadsSystems}

@@ -1,4 +1,4 @@
--- Which written decks pass the checks of their grammars, and what the first fault is in one that doesn't.
+-- Which written grammars pass the checks, and what the first fault is in those that don't.
 use Rattle.std.specs.Prelude.{◌≡◌, ℕ, ◌≤◌, List, ◌∷◌, ◌++◌, length, Some, slice_get}
 use Rattle.std.specs.List.{All}
 use Rattle.qs_lex.specs.declared.refusal.Cause.{Cause}
@@ -7,18 +7,18 @@ use Rattle.qs_pattern.specs.Rules.{IsAcceptable}
 use Rattle.qs_ruletext.specs.WrittenRules.{WrittenRule}
 use Rattle.qs_check.specs.declared.checking.CheckEnd.TheVariants.{Refused}
 use Rattle.qs_check.specs.Checking.{EndsWith}
-use Rattle.qs_deck.specs.WrittenDecks.{WrittenSystem, WrittenDeck, rules_in}
+use Rattle.qs_deck.specs.WrittenDecks.{WrittenSystem, rules_of}
 
 -- There are at most 256 systems, and each rule is accepted.
-pub record IsChecked (deck : WrittenDeck) : Type 0 where
-  pub few : length deck.systems ≤ 256
-  pub accepted : All (λ raw. IsAcceptable raw.rule) (rules_in deck)
+pub record IsChecked (systems : List WrittenSystem) : Type 0 where
+  pub few : length systems ≤ 256
+  pub accepted : All (λ raw. IsAcceptable raw.rule) (rules_of systems)
 
 -- The first fault and its byte: the word -SYSTEME- of the 257th system; or, where there are no more than 256, the first
 -- cause why the first rule that isn't accepted isn't.
-pub data IsCheckFault (deck : WrittenDeck) : ℕ → Cause → Type 0 where
-  too_many_systems : (system : WrittenSystem) → slice_get deck.systems 256 ≡ Some system
-      → IsCheckFault deck system.at TooManySystems
+pub data IsCheckFault (systems : List WrittenSystem) : ℕ → Cause → Type 0 where
+  too_many_systems : (system : WrittenSystem) → slice_get systems 256 ≡ Some system
+      → IsCheckFault systems system.at TooManySystems
   rule_not_accepted : (front behind : List WrittenRule) (raw : WrittenRule) {at : ℕ} {cause : Cause}
-      → length deck.systems ≤ 256 → rules_in deck ≡ front ++ raw ∷ behind → All (λ r. IsAcceptable r.rule) front
-      → EndsWith raw (Refused cause at) → IsCheckFault deck at cause
+      → length systems ≤ 256 → rules_of systems ≡ front ++ raw ∷ behind → All (λ r. IsAcceptable r.rule) front
+      → EndsWith raw (Refused cause at) → IsCheckFault systems at cause

@@ -62,7 +62,7 @@ pub record IsDeckOf (text : List ℕ) (version : ℕ) (names : List (List ℕ)) 
     : Type 0 where
   pub written : WrittenDeck
   pub is_written : IsWritten text version names written
-  pub checked : IsChecked written
+  pub checked : IsChecked written.systems
   pub few : AreFew written.chains
   pub valid : IsValid graph
   pub grammars_are : grammars ≡ map meaning_of written.systems

@@ -11,6 +11,7 @@ pub mod Decks
 pub mod Marks
 pub mod Named
 pub mod Refusals
+pub mod GrammarLists
 pub mod Texts
 pub mod MadeDecks
 pub mod Answers

@@ -51,9 +51,9 @@ pub data IsFault (text : List ℕ) : ℕ → Cause → Type 0 where
   syntax : (ts : List Token) (index : ℕ) → HasTokens text ts → CannotGoOn text ts index
       → IsFault text (byte_of text ts index) Syntax
   check : (version : ℕ) (names : List (List ℕ)) (deck : WrittenDeck) {at : ℕ} {cause : Cause}
-      → IsWritten text version names deck → IsCheckFault deck at cause → IsFault text at cause
+      → IsWritten text version names deck → IsCheckFault deck.systems at cause → IsFault text at cause
   graph : (version : ℕ) (names : List (List ℕ)) (deck : WrittenDeck) {at : ℕ} {cause : Cause}
-      → IsWritten text version names deck → IsChecked deck → IsGraphFault deck at cause → IsFault text at cause
+      → IsWritten text version names deck → IsChecked deck.systems → IsGraphFault deck at cause → IsFault text at cause
 
 -- The text is refused for its first fault.
 abbrev pub IsRefusalOf : List ℕ → Refusal → Type 0

@@ -1,11 +1,11 @@
--- The line with which a deck of version 2 begins: `-VERSION- 2.` (This project's own.)
+-- The line with which a text of version 2 begins: `-VERSION- 2.` (This project's own.)
 use Rattle.std.specs.Prelude.{◌≡◌, ℕ, List, [], ◌∷◌, ◌++◌, codes}
 use Rattle.qs_lex.specs.declared.token.Token.{Token}
 use Rattle.qs_lex.specs.declared.token.Kind.TheVariants.{Bare}
 use Rattle.qs_lex.specs.declared.token.Word.TheVariants.{Version}
 use Rattle.qs_lex.specs.Tokens.{version_of, bytes_of}
-use Rattle.qs_lex.specs.Grammar.{the_word, stop, part, IsOf, IsWhole, Begins}
-use Rattle.qs_deck.specs.Grammar.{deck, line}
+use Rattle.qs_lex.specs.Grammar.{the_word, stop, Form, IsOf, IsWhole, Begins}
+use Rattle.qs_deck.specs.Grammar.{Part, line}
 
 -- The token is the bare label 2.
 pub record IsTwo (text : List ℕ) (t : Token) : Type 0 where
@@ -26,16 +26,17 @@ pub data BeginsVersionLine (text : List ℕ) : List Token → Type 0 where
   without_stop : {word number : Token} → IsOf (the_word Version) word → IsTwo text number
       → BeginsVersionLine text (word ∷ number ∷ [])
 
--- These tokens of the text are a deck, whole: the line of the text's version, and then what a deck is in each version.
-pub record IsWholeDeck (text : List ℕ) (tokens : List Token) : Type 0 where
+-- These tokens of the text are the form, whole: the line of the text's version, and then what the form is in each
+-- version.
+pub record IsWholeText (form : Form Part) (text : List ℕ) (tokens : List Token) : Type 0 where
   pub front : List Token
   pub body : List Token
   pub are : tokens ≡ front ++ body
   pub in_front : IsVersionLine text (version_of text) front
-  pub whole : IsWhole line (part deck) body []
+  pub whole : IsWhole line form body []
 
--- These tokens of the text begin a deck.
-pub data BeginsDeck (text : List ℕ) (tokens : List Token) : Type 0 where
-  in_the_line : version_of text ≡ 2 → BeginsVersionLine text tokens → BeginsDeck text tokens
+-- These tokens of the text begin the form, with the line of the text's version in front of it.
+pub data BeginsText (form : Form Part) (text : List ℕ) (tokens : List Token) : Type 0 where
+  in_the_line : version_of text ≡ 2 → BeginsVersionLine text tokens → BeginsText form text tokens
   behind_the_line : {front body : List Token} → tokens ≡ front ++ body → IsVersionLine text (version_of text) front
-      → Begins line (part deck) body → BeginsDeck text tokens
+      → Begins line form body → BeginsText form text tokens

@@ -24,7 +24,3 @@ pub record WrittenDeck : Type 0 where
 -- The rules of these systems, in the order of the text.
 abbrev pub rules_of : List WrittenSystem → List WrittenRule
 rules_of systems = flat_map (λ system. system.rules) systems
-
--- The rules of all systems of the deck.
-abbrev pub rules_in : WrittenDeck → List WrittenRule
-rules_in deck = rules_of deck.systems

@@ -9,7 +9,8 @@ ghost use Rattle.qs_graph.specs.Graphs.{QGraph};
 ghost use Rattle.qs_lex.specs.declared.refusal.Refusal.{Refusal};
 ghost use Rattle.qs_deck.specs.Decks.{Grammar, grammar_of, IsDeckOf, IsWritten};
 ghost use Rattle.qs_deck.specs.Refusals.{byte_of, IsRefusalOf, EndsFor};
-ghost use Rattle.qs_deck.specs.working.Answers.{IsEndOf, end_of_chains};
+ghost use Rattle.qs_deck.specs.working.Answers.{IsEndOf, IsEndOfGrammars, IsBetween, end_of_chains};
+ghost use Rattle.qs_deck.specs.GrammarLists.{EndsForGrammars};
 ghost use Rattle.qs_deck.specs.Texts.{deck_text};
 
 use crate::checking::checked;
@@ -26,7 +27,7 @@ use std::alloc::Global;
 use std::str;
 
 /// The refusal of bytes that aren't UTF-8. The longest front that is has so many bytes.
-fn not_utf8(bytes: &[u8], valid: usize) -> Refusal
+pub fn not_utf8(bytes: &[u8], valid: usize) -> Refusal
     requires valid { IsValidUpTo bytes.now valid }
     requires short { length bytes.now ≤ 4194304 }
     ensures { Tells bytes.now valid Cause.NotUtf8 result }
@@ -36,7 +37,7 @@ fn not_utf8(bytes: &[u8], valid: usize) -> Refusal
 }
 
 /// The byte at which the token with this index begins; the length of the text where there is no such token.
-fn byte_of(text: &str, tokens: &[Token], index: usize) -> u32
+pub fn byte_of(text: &str, tokens: &[Token], index: usize) -> u32
     requires spans { AreSpansFrom text.now 0 tokens.now }
     requires short { length text.now ≤ 4194304 }
     ensures value { result ≡ byte_of text.now tokens.now index }
@@ -49,13 +50,14 @@ fn byte_of(text: &str, tokens: &[Token], index: usize) -> u32
 }
 
 /// Nothing, where at most 1,000 parentheses are open at a time; else the fault at the first that is one too many.
-fn shallow(text: &str, tokens: &[Token]) -> Result<(), FaultEnd>
+pub fn shallow(text: &str, tokens: &[Token]) -> Result<(), FaultEnd>
     requires of_text { AreTokensOf text.now tokens.now }
     requires spans { AreSpansFrom text.now 0 tokens.now }
     requires short { length text.now ≤ 4194304 }
     requires utf8 { IsUtf8 text.now }
     ensures shallow { IfOk result (λ _. (index : ℕ) → IsTooDeep tokens.now index → ⊥) }
     ensures end { IfErr result (IsEndOf text.now) }
+    ensures end_of_grammars { IfErr result (IsEndOfGrammars text.now) }
 {
     match too_deep(tokens) {
         Some(index) => Err(FaultEnd::Fault {
@@ -130,11 +132,12 @@ fn deck_of_tokens(alloc: Global, text: &str, tokens: &[Token]) -> Result<Deck, F
     }
 }
 
-/// What is told of a text that means no deck.
-fn told(text: &str, end: FaultEnd) -> DeckEnd
-    requires end { IsEndOf text.now end }
+/// What is told of a text that means no deck, or no list of grammars.
+pub fn told(text: &str, end: FaultEnd) -> DeckEnd
+    requires between { IsBetween text.now end }
     requires short { length text.now ≤ 4194304 }
-    ensures { EndsFor text.now result }
+    ensures deck { IsEndOf text.now end → EndsFor text.now result }
+    ensures grammars { IsEndOfGrammars text.now end → EndsForGrammars text.now result }
 {
     match end {
         FaultEnd::Fault { byte, cause } => DeckEnd::Refused(Refusal::at(text, byte, cause)),

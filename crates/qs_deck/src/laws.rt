@@ -3,7 +3,9 @@
 ghost use Rattle.std.specs.Prelude.{◌≡◌, ◌⊎◌, ℕ, List};
 ghost use Rattle.qs_lex.specs.declared.refusal.Refusal.{Refusal};
 ghost use Rattle.qs_graph.specs.Graphs.{QGraph};
+ghost use Rattle.qs_lex.specs.Refusals.{IsRefusedFor};
 ghost use Rattle.qs_deck.specs.Decks.{Grammar, IsDeckOf};
+ghost use Rattle.qs_deck.specs.GrammarLists.{AreGrammarsOf, IsGrammarsFault};
 ghost use Rattle.qs_deck.specs.Refusals.{IsRefusalOf};
 ghost use Rattle.qs_deck.specs.Texts.{deck_text};
 
@@ -19,6 +21,17 @@ pub fn one_answer()
         ⊎ ((r : Refusal) × IsRefusalOf text r) }
     ensures not_both { (text : List ℕ) (version : ℕ) (names : List (List ℕ)) (grammars : List Grammar) (G : QGraph)
         (r : Refusal) → IsDeckOf text version names grammars G → IsRefusalOf text r → ⊥ }
+{}
+
+/// A text means one list of grammars, or has one first fault of such a list, and never both.
+pub fn one_list_of_grammars()
+    ensures grammars { (text : List ℕ) (v w : ℕ) (names others : List (List ℕ)) (grammars more : List Grammar)
+        → AreGrammarsOf text v names grammars → AreGrammarsOf text w others more
+        → (v ≡ w) × (names ≡ others) × (grammars ≡ more) }
+    ensures refusal { (text : List ℕ) (r s : Refusal) → IsRefusedFor IsGrammarsFault text r
+        → IsRefusedFor IsGrammarsFault text s → r ≡ s }
+    ensures not_both { (text : List ℕ) (version : ℕ) (names : List (List ℕ)) (grammars : List Grammar) (r : Refusal)
+        → AreGrammarsOf text version names grammars → IsRefusedFor IsGrammarsFault text r → ⊥ }
 {}
 
 /// What is written of a deck that a text means is a text that means this deck: the same version, grammars and graph,

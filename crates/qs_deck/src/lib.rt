@@ -10,6 +10,7 @@ mod checking;
 mod deck;
 mod decks;
 mod fault;
+mod grammar_lists;
 pub mod laws;
 mod made_decks;
 mod made_texts;
@@ -21,6 +22,7 @@ mod written;
 
 pub use deck::{Deck, DeckEnd};
 pub use decks::read_deck;
+pub use grammar_lists::read_systems;
 pub use made_decks::made;
 pub use made_texts::made_deck;
 pub use std::alloc::AllocError as Memory;

@@ -1,13 +1,13 @@
 //! Decks, read from tokens.
 
-ghost use Rattle.std.specs.Prelude.{◌≡◌, ℕ, ◌*◌, ◌^◌, ◌+◌, ◌<◌, IfOk, IfErr, [], length};
+ghost use Rattle.std.specs.Prelude.{◌≡◌, ℕ, ◌*◌, ◌^◌, ◌+◌, ◌<◌, ◌≤◌, IfOk, IfErr, [], length};
 ghost use Rattle.qs_lex.specs.Tokens.{AreTokensOf};
 ghost use Rattle.qs_lex.specs.Nesting.{IsTooDeep};
 ghost use Rattle.qs_lex.specs.Grammar.{part};
 ghost use Rattle.qs_reader.specs.Names.{KeepsNames};
 ghost use Rattle.qs_reader.specs.Readers.{rest_of};
-ghost use Rattle.qs_deck.specs.Grammar.{deck, system};
-ghost use Rattle.qs_deck.specs.working.Versions.{IsReadAs, EndsAt};
+ghost use Rattle.qs_deck.specs.Grammar.{deck, system, grammars};
+ghost use Rattle.qs_deck.specs.working.Versions.{IsReadAs, AreReadAs, EndsAt, EndsIn};
 ghost use Rattle.qs_deck.specs.working.Readers.{IsRead, Ends, some_rules, some_systems, one_graph};
 ghost use Rattle.qs_deck.specs.working.Readers.{Rules, ASystem, Systems, AGraph, ADeck};
 
@@ -152,4 +152,29 @@ pub fn read_written(
         return Err(reader.fault());
     }
     Ok((version, deck))
+}
+
+/// Reads the grammars that these tokens of the text are, before they are checked, and the version of the text. There is
+/// at least one. It answers as `read_written` does, of a list of grammars in place of a deck.
+pub fn read_grammars(
+    alloc: Global,
+    text: &str,
+    tokens: &[Token],
+    names: &mut Names,
+) -> Result<(u8, Vec<RawSystem>), TextEnd>
+    requires of_text { AreTokensOf text.now tokens.now }
+    requires shallow { (index : ℕ) → IsTooDeep tokens.now index → ⊥ }
+    requires room { length names.old + 2 * length tokens.now < 2 ^ 32 }
+    ensures read { IfOk result (λ found. AreReadAs text.now tokens.now found.0 found.1.items names.old names.new) }
+    ensures few { IfOk result (λ _. length names.new ≤ length names.old + length tokens.now) }
+    ensures ends { IfErr result (EndsIn grammars text.now tokens.now) }
+    ensures keeps { KeepsNames names.old names.new }
+{
+    let mut reader = Reader::new(alloc, text, tokens, 0);
+    let version = pass_version(&mut reader)?;
+    let systems = systems(&mut reader, names)?;
+    match reader.peek() {
+        Some(_token) => Err(reader.fault()),
+        None => Ok((version, systems)),
+    }
 }

@@ -5,7 +5,7 @@ ghost use Rattle.qs_lex.specs.declared.token.Token.{Token};
 ghost use Rattle.qs_lex.specs.Tokens.{IsTokenOf};
 ghost use Rattle.qs_reader.specs.Readers.{rest_of, IsNext};
 ghost use Rattle.qs_deck.specs.Versions.{IsTwo};
-ghost use Rattle.qs_deck.specs.working.Versions.{PassesLine, EndsAt};
+ghost use Rattle.qs_deck.specs.working.Versions.{PassesLine, EndsInLine};
 
 use qs_lex::{Kind, Token, Word, version};
 use qs_reader::{Reader, TextEnd};
@@ -37,7 +37,7 @@ fn is_at_two(reader: &Reader<'_>) -> bool
 pub fn pass_version(reader: &mut Reader<'_>) -> Result<u8, TextEnd>
     requires { reader.old.place ≡ 0 }
     ensures passes { IfOk result (PassesLine reader.old reader.new) }
-    ensures ends { IfErr result (EndsAt reader.old.text reader.old.tokens) }
+    ensures ends { IfErr result (EndsInLine reader.old.text reader.old.tokens) }
 {
     if version(reader.text().as_bytes()) == 1 {
         return Ok(1);

@@ -1,5 +1,6 @@
 //! Tests of the values that rules act on: labels and trees, variables and substitutions, graphs, firings and
-//! matches; of the work of an arc; of the machine of steps; of one worker; and of what unique grammars leave.
+//! matches; of the work of an arc; of the machine of steps; of one worker; of what unique grammars leave; and of lines
+//! of words and readings.
 #![tactic(auto)]
 
 #[cfg(test)]
@@ -14,6 +15,8 @@ mod join_tests;
 mod match_tests;
 #[cfg(test)]
 mod merging_tests;
+#[cfg(test)]
+mod phrase_tests;
 #[cfg(test)]
 mod reading;
 #[cfg(test)]

@@ -40,8 +40,7 @@ fn the_limit_stops_a_worker(rt: HostRuntime) {
 
 #[test]
 fn a_circle_of_unique_rules_closes(rt: HostRuntime) {
-    let text =
-        "-VERSION- 2. -SYSTEME- S -UNIQUE-. A == B. B == A. -GRAPHE- -1- A -2-. -FIN-";
+    let text = "-VERSION- 2. -SYSTEME- S -UNIQUE-. A == B. B == A. -GRAPHE- -1- A -2-. -FIN-";
     let state = saturated(&rt, rt.alloc(), text, 2);
     let [first, second] = state.fired() else {
         panic!(rt; "two firings");

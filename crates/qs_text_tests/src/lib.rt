@@ -1,9 +1,11 @@
-//! Tests of how texts are read: what only calls show of tokens, of rules and chains with their bytes, and of decks with
-//! the numbers of their labels.
+//! Tests of how texts are read: what only calls show of tokens, of rules and chains with their bytes, of decks with
+//! the numbers of their labels, and of lists of grammars.
 #![tactic(auto)]
 
 #[cfg(test)]
 mod deck_tests;
+#[cfg(test)]
+mod grammar_tests;
 #[cfg(test)]
 mod graph_tests;
 #[cfg(test)]

@@ -8,6 +8,7 @@ use Rattle.qs_graphtext.specs.declared.chain_end.ChainEnd.TheVariants as chain_e
 use Rattle.qs_deck.specs.declared.fault.FaultEnd.{FaultEnd}
 use Rattle.qs_deck.specs.declared.fault.FaultEnd.TheVariants.{Fault, Memory}
 use Rattle.qs_deck.specs.Refusals.{IsFault}
+use Rattle.qs_deck.specs.GrammarLists.{IsGrammarsFault}
 
 abbrev pub end_of_check : CheckEnd → FaultEnd
 end_of_check (check_end.Refused cause at) = Fault at cause
@@ -24,3 +25,13 @@ end_of_chains graph_at chain_end.Memory = Memory
 abbrev pub IsEndOf : List ℕ → FaultEnd → Type 0
 IsEndOf text (Fault byte cause) = IsFault text byte cause × IsCharBoundary text byte
 IsEndOf text Memory = Unit {0}
+
+-- the same for a text that means no list of grammars
+abbrev pub IsEndOfGrammars : List ℕ → FaultEnd → Type 0
+IsEndOfGrammars text (Fault byte cause) = IsGrammarsFault text byte cause × IsCharBoundary text byte
+IsEndOfGrammars text Memory = Unit {0}
+
+-- the fault's place is between characters
+abbrev pub IsBetween : List ℕ → FaultEnd → Type 0
+IsBetween text (Fault byte cause) = IsCharBoundary text byte
+IsBetween text Memory = Unit {0}

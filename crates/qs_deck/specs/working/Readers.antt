@@ -1,7 +1,7 @@
 -- What the private functions of the reader of decks promise.
 use Rattle.std.specs.Prelude.{ℕ, ◌≤◌, Bool, List, length}
 use Rattle.qs_lex.specs.declared.token.Word.TheVariants.{Systeme, Unique}
-use Rattle.qs_lex.specs.Grammar.{Sort, the_word, Form, one, part, ◌·◌, optional, repeated}
+use Rattle.qs_lex.specs.Grammar.{Sort, the_word, Form, one, part, optional, repeated}
 use Rattle.qs_lex.specs.Expecting.{same_sort}
 use Rattle.qs_reader.specs.declared.text_end.TextEnd.{TextEnd}
 use Rattle.qs_reader.specs.Readers.{Reading}
@@ -16,7 +16,7 @@ use Rattle.qs_graphtext.specs.Grammar as graphs
 use Rattle.qs_graphtext.specs.Reading.{ReadsGraph}
 use Rattle.qs_graphtext.specs.working.Readers as graph_readers
 use Rattle.qs_deck.specs.WrittenDecks.{WrittenSystem, WrittenDeck}
-use Rattle.qs_deck.specs.Grammar.{Part, deck, system, of_rules, of_graphs, line}
+use Rattle.qs_deck.specs.Grammar.{Part, deck, system, of_rules, of_graphs, grammars, line}
 use Rattle.qs_deck.specs.Reading.{ReadsMark, ReadsSystem, ReadsSystems, ReadsDeck}
 
 -- which sorts the parts may begin with
@@ -44,7 +44,7 @@ abbrev pub some_rules : Form Part
 some_rules = repeated (part (of_rules rules.rule))
 
 abbrev pub some_systems : Form Part
-some_systems = part system · repeated (part system)
+some_systems = grammars
 
 abbrev pub one_graph : Form Part
 one_graph = part (of_graphs graphs.graph)

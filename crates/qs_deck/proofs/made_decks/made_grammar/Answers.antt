@@ -1,4 +1,4 @@
-use Rattle.std.proofs.Common.{◌≡◌, List, false, ap, sym, subst, refl, length, arith}
+use Rattle.std.proofs.Common.{◌≡◌, false, ap, sym, subst, refl, length, arith}
 use Rattle.std.specs.List.{range_with_len}
 use Rattle.std.proofs.lemmas.List.FromFn.{length-map-range_with_len}
 use Rattle.qs_tree.proofs.Members.{from_map}

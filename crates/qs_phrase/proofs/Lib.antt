@@ -1,0 +1,5 @@
+pub mod Orders
+pub mod Ways
+pub mod Index
+pub mod GoingOn
+pub mod Listed
