@@ -5,9 +5,12 @@ use Rattle.qs_pattern.specs.Rules.{Rule, IsAccepted}
 use Rattle.qs_graph.specs.Graphs.{QGraph, IsValid, IsEntry, IsExit}
 use Rattle.qs_firing.specs.Firings.{Firing}
 use Rattle.qs_canon.specs.Rounds.{Done, Stage, start, after, Needs}
+use Rattle.qs_canon.specs.Closures.{ClosureOf, IsClosure}
 use Rattle.qs_canon.proofs.Rounds.{length-after}
+use Rattle.qs_canon.proofs.Naming.{rounds_named}
+use Rattle.qs_clean.specs.Cleaning.{IsClosureOfValid}
 use Rattle.qs_cascade.specs.working.Finding.{Finds, NewFiring}
-use Rattle.qs_cascade.specs.working.Closing.{ClosesSoon}
+use Rattle.qs_cascade.specs.ClosureEnds.{HasGrownWithin, HasNoNewLabels}
 use Rattle.qs_cascade.proofs.Reaching.{Reaches, reaches_start, reaches_next, round_found, needs_all, needs_more, closes_here}
 
 -- the stage before a round
@@ -57,16 +60,27 @@ passes R G L n old room S F g x more =
     let few = g.few in
     needs_all g.reaches (round_found g.reaches x) g.rounds (omega arith) few
 
+-- what a closure that was reached shows
+pub record ClosesSoon (R : List Rule) (G : QGraph) (L : ℕ) (c : ClosureOf) : Type 0 where
+  pub closure : IsClosure R G c
+  pub few : length c.stage.done ≤ L
+  pub valid : IsClosureOfValid c
+  pub grown : HasGrownWithin G L c
+  pub no_labels : HasNoNewLabels R G c
+
 -- the search has found nothing
-pub closes_soon : (R : List Rule) (G : QGraph) (L n old room : ℕ) (S : Stage) (F : List Firing) (entry exit first : ℕ) → ((rule : Rule) → rule ∈ R → IsAccepted rule) → IsValid G → Goes R G L n old S
-    → Finds (NewFiring R S.graph.arcs old) [] F room true → F ≡ [] → IsEntry G entry → IsExit G exit → first ≡ length G.arcs → ClosesSoon R G L (record { stage = S; entry = entry; exit = exit; start = first })
-closes_soon R G L n old room S F entry exit first ok valid g x none e f s =
+pub closes_soon : (R : List Rule) (G : QGraph) (L n old room : ℕ) (S : Stage) (F : List Firing) (entry exit first : ℕ) → ((rule : Rule) → rule ∈ R → IsAccepted rule) → IsValid G → 1 ≤ L → length G.arcs + 16 * L ≤ 4294967295
+    → Goes R G L n old S → Finds (NewFiring R S.graph.arcs old) [] F room true → F ≡ [] → IsEntry G entry → IsExit G exit → first ≡ length G.arcs → ClosesSoon R G L (record { stage = S; entry = entry; exit = exit; start = first })
+closes_soon R G L n old room S F entry exit first ok valid some fits g x none e f s =
     let few = g.few in
     let arcs = g.arcs in
+    let nodes = g.nodes in
+    let closes = closes_here g.reaches (subst (λ (fs : List Firing). Finds (NewFiring R S.graph.arcs old) [] fs room true) none x) in
+    let closure : IsClosure R G (record { stage = S; entry = entry; exit = exit; start = first }) = record { closes = closes; entry = e; exit = f; start = s } in
     record {
-      accepted = ok;
-      valid = valid;
-      closure = record { closes = closes_here g.reaches (subst (λ (fs : List Firing). Finds (NewFiring R S.graph.arcs old) [] fs room true) none x); entry = e; exit = f; start = s };
+      closure = closure;
       few = few;
-      arcs = omega arith;
+      valid = record { rules = R; accepted = ok; start = G; valid = valid; start_few = omega arith; closure = closure; few = omega arith };
+      grown = (omega arith, omega arith);
+      no_labels = λ m right named. rounds_named m R ok right G named closes.rounds S closes.reached;
     }

@@ -1,2 +1,3 @@
+pub mod ClosureEnds
 pub mod Stages
 pub mod working

@@ -1,5 +1,5 @@
 -- How a grammar ends.
-use Rattle.std.specs.Prelude.{ℕ, ◌≡◌, ◌≤◌, ◌<◌, ◌+◌, ◌*◌, List, [], length}
+use Rattle.std.specs.Prelude.{ℕ, ◌≡◌, ◌≤◌, ◌<◌, ◌+◌, ◌*◌, List, [], length, Option, Some, None}
 use Rattle.qs_tree.specs.Lists.{◌∈◌}
 use Rattle.qs_tree.specs.Text.{IsNamed}
 use Rattle.qs_pattern.specs.Limits.{most_patterns}
@@ -7,6 +7,7 @@ use Rattle.qs_pattern.specs.Rules.{Rule}
 use Rattle.qs_pattern.specs.Named.{ArePatternsNamed}
 use Rattle.qs_graph.specs.Graphs.{Arc, QGraph}
 use Rattle.qs_canon.specs.Rounds.{Stage, Closes, Needs}
+use Rattle.qs_canon.specs.Closures.{ClosureOf}
 use Rattle.qs_clean.specs.Cleaning.{Cleans}
 use Rattle.qs_cascade.specs.declared.stage.StageEnd.{StageEnd}
 use Rattle.qs_cascade.specs.declared.stage.StageEnd.TheVariants as end
@@ -25,6 +26,18 @@ abbrev pub IsStageEnd : List Rule → QGraph → ℕ → StageEnd → Type 0
 IsStageEnd R G L (end.Left graph firings) = LeavesGraph R G L firings graph × (0 < length graph.arcs)
 IsStageEnd R G L (end.Empty firings) = (E : QGraph) × LeavesGraph R G L firings E × (E.arcs ≡ [])
 IsStageEnd R G L end.Over = Needs R G L
+
+-- What a grammar leaves by its closure, where it has one: the cleaned closure, or nothing where that has no arc, each
+-- with the number of firings of the closure.
+abbrev pub IsEndBehind : Option ClosureOf → StageEnd → Type 0
+IsEndBehind None (end.Left graph firings) = ⊥
+IsEndBehind None (end.Empty firings) = ⊥
+IsEndBehind None end.Over = Unit {0}
+IsEndBehind (Some c) (end.Left graph firings) =
+    Cleans c.stage graph × (0 < length graph.arcs) × (firings ≡ length c.stage.done)
+IsEndBehind (Some c) (end.Empty firings) =
+    (E : QGraph) × Cleans c.stage E × (E.arcs ≡ []) × (firings ≡ length c.stage.done)
+IsEndBehind (Some c) end.Over = ⊥
 
 -- A graph that is left has, for each of L firings, at most `most_patterns` arcs and nodes more than G.
 abbrev pub GrowsWithin : QGraph → ℕ → StageEnd → Type 0

@@ -1,4 +1,3 @@
 -- Working definitions: private functions and proofs need them, and no public contract cites one.
 pub mod Leaving
 pub mod Finding
-pub mod Closing

@@ -1,10 +1,11 @@
 //! The closure of a grammar.
 
-ghost use Rattle.std.specs.Prelude.{◌≡◌, ◌<◌, ◌≤◌, ◌+◌, ◌-◌, ◌*◌, ◌^◌, length, IfOk};
+ghost use Rattle.std.specs.Prelude.{◌≡◌, ◌<◌, ◌≤◌, ◌+◌, ◌-◌, ◌*◌, ◌^◌, length, IfOk, IfSome};
 ghost use Rattle.qs_pattern.specs.Limits.{most_patterns};
 ghost use Rattle.qs_tree.specs.Lists.{◌∈◌};
 ghost use Rattle.qs_pattern.specs.Rules.{Rule as RuleOfPatterns, IsAccepted, all_unique};
-ghost use Rattle.qs_cascade.specs.working.Closing.{ClosesOrNeeds};
+ghost use Rattle.qs_clean.specs.Cleaning.{IsClosureOfValid};
+ghost use Rattle.qs_cascade.specs.ClosureEnds.{IsClosureEnd, HasGrownWithin, HasNoNewLabels};
 
 use crate::adding::do_round;
 use crate::arcs::Arcs;
@@ -26,10 +27,11 @@ fn are_unique(rules: &[Rule]) -> bool
     all
 }
 
-/// The closure of the rules from a graph, round by round, as the rounds are defined; or None where the rules need more
-/// firings than the limit. The limit is at least 1, and the numbers of arcs and of nodes of the graph, each with 16
-/// times the limit, fit a `u32`.
-pub fn closure(
+/// The closure of the rules from a graph, alone, round by round; or None exactly where the rules need more firings than
+/// the limit. The limit is at least 1, and the numbers of arcs and of nodes of the graph, each with 16 times the limit,
+/// fit a `u32`. The closure is one over a valid graph, as cleaning takes it; it has no more arcs and nodes than these
+/// numbers, and no labels but those of the graph and of the rules' right sides. It always returns.
+pub fn closure_alone(
     alloc: Global,
     rules: &[Rule],
     start: &Graph,
@@ -39,7 +41,10 @@ pub fn closure(
     requires rules { length rules.now < 4294967295 }
     requires arcs { length start.now.arcs + most_patterns * limit ≤ 2 ^ 32 - 1 }
     requires nodes { start.now.nodes + most_patterns * limit ≤ 2 ^ 32 - 1 }
-    ensures { IfOk result (λ c. ClosesOrNeeds rules.now start.now limit c) }
+    ensures end { IfOk result (λ end. IsClosureEnd rules.now start.now limit end) }
+    ensures valid { IfOk result (λ end. IfSome end IsClosureOfValid) }
+    ensures grows { IfOk result (λ end. IfSome end (HasGrownWithin start.now limit)) }
+    ensures labels { IfOk result (λ end. IfSome end (HasNoNewLabels rules.now start.now)) }
 {
     let unique = are_unique(rules);
     let mut arcs = Arcs::of(alloc, start)?;

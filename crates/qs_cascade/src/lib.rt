@@ -9,5 +9,6 @@ mod rounds;
 mod search;
 mod stage;
 
-pub use stage::{StageEnd, stage_alone};
+pub use closing::closure_alone;
+pub use stage::{StageEnd, end_behind, stage_alone};
 pub use std::alloc::AllocError as Memory;

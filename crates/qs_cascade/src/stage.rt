@@ -1,10 +1,12 @@
 //! What a grammar leaves.
 
-ghost use Rattle.std.specs.Prelude.{◌≡◌, ◌<◌, ◌≤◌, ◌+◌, ◌-◌, ◌*◌, ◌^◌, length, IfOk};
+ghost use Rattle.std.specs.Prelude.{◌≡◌, ◌<◌, ◌≤◌, ◌+◌, ◌-◌, ◌*◌, ◌^◌, length, IfOk, IfSome};
 ghost use Rattle.qs_pattern.specs.Limits.{most_patterns};
-ghost use Rattle.qs_cascade.specs.Stages.{IsStageEnd, GrowsWithin, MakesNoLabels};
+ghost use Rattle.qs_clean.specs.Cleaning.{IsClosureOfValid};
+ghost use Rattle.qs_cascade.specs.Stages.{IsEndBehind, IsStageEnd, GrowsWithin, MakesNoLabels};
 
-use crate::closing::closure;
+use crate::closing::closure_alone;
+use qs_canon::Closure;
 use qs_clean::clean;
 use qs_graph::Graph;
 use qs_pattern::Rule;
@@ -37,11 +39,22 @@ pub fn stage_alone(
     ensures grows { IfOk result (λ end. GrowsWithin start.now limit end) }
     ensures labels { IfOk result (λ end. MakesNoLabels rules.now start.now end) }
 {
-    let Some(closure) = closure(alloc, rules, start, limit)? else {
+    let closure = closure_alone(alloc, rules, start, limit)?;
+    end_behind(alloc, &closure)
+}
+
+/// What a grammar leaves by the closure of its rules, where it has one: what cleaning leaves of it. It has fewer than
+/// 4,294,967,296 firings.
+pub fn end_behind(alloc: Global, closure: &Option<Closure>) -> Result<StageEnd, AllocError>
+    requires valid { IfSome closure.now IsClosureOfValid }
+    requires few { IfSome closure.now (λ c. length c.stage.done < 2 ^ 32) }
+    ensures { IfOk result (IsEndBehind closure.now) }
+{
+    let Some(closure) = closure else {
         return Ok(StageEnd::Over);
     };
     let firings = closure.firings.len() as u32;
-    match clean(alloc, &closure)? {
+    match clean(alloc, closure)? {
         Some(graph) => Ok(StageEnd::Left { graph, firings }),
         None => Ok(StageEnd::Empty { firings }),
     }

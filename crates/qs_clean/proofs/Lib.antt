@@ -8,7 +8,7 @@ pub mod LinkSteps
 pub mod ArcSteps
 pub mod Places
 pub mod ArcLists
-pub mod Kept
+pub mod Keeping
 pub mod Renumbered
 pub mod Closures
 pub mod Whole

@@ -11,7 +11,7 @@ use Rattle.qs_clean.specs.working.Steps.{each_pair, marked, numbering, numbered_
 use Rattle.qs_clean.specs.Cleaning.{Cleans, IsEndOf, number_in, renumbered}
 use Rattle.qs_clean.proofs.Places.{places_ascend, in_places, length-places, numbering-number_in, number_range, number_one, number_all}
 use Rattle.qs_clean.proofs.ArcLists.{in_arcs_at, to_arcs_at, arcs_at-places, each_if_kept, length-if_kept, length-keeps}
-use Rattle.qs_clean.proofs.Kept.{kept, left, kept_marks, left_marks, kept_arc, kept_are, kept_ends, kept_into, kept_out_of, entry_left, exit_left, left_are}
+use Rattle.qs_clean.proofs.Keeping.{kept, left, kept_marks, left_marks, kept_arc, kept_are, kept_ends, kept_into, kept_out_of, entry_left, exit_left, left_are}
 
 member_some : {X : Type 0} (xs : List X) (x : X) → x ∈ xs → 0 < length xs
 member_some [] x i = absurd i

@@ -10,9 +10,10 @@ use Rattle.qs_canon.specs.Closures.{ClosureOf}
 use Rattle.qs_clean.specs.declared.links.Link.{Link}
 use Rattle.qs_clean.specs.working.Links.{IsMarked, Reaches, turned}
 use Rattle.qs_clean.specs.working.Steps.{IsUsed, each_pair, free_link, keeps_mark, both, marked, numbering, if_kept, AreMarks}
-use Rattle.qs_clean.specs.Cleaning.{IsClosureOfValid, Cleans}
+use Rattle.qs_clean.specs.Cleaning.{IsClosureOfValid, Stays, Cleans}
 use Rattle.qs_clean.proofs.Places.{length-both, length-numbering}
 use Rattle.qs_clean.proofs.ArcLists.{length-keeps, length-if_kept}
+use Rattle.qs_clean.proofs.Keeping.{stays_from, stays_to}
 use Rattle.qs_clean.proofs.Renumbered.{none_left, graph_left, graph_kept}
 use Rattle.qs_clean.proofs.Closures.{stage_valid, entry_is, exit_is, denoted_used, left_few, kept_few}
 
@@ -63,6 +64,13 @@ module _ (V : ClosureOf) (v : IsClosureOfValid V) where
 
     pub kept_len : length kept_bits ≡ length V.stage.graph.arcs
     kept_len = length-keeps from_entry to_exit V.stage.graph.arcs denoted m.denoted_len
+
+    -- an arc is marked where it stays
+    pub kept_stay : (marks : List Bool) → marks ≡ kept_bits → (k : ℕ) → IsMarked marks k ↔ Stays V.stage k
+    kept_stay marks e k = subst (λ ms. IsMarked ms k ↔ Stays V.stage k) (sym e) (
+      λ is. stays_from V.stage V.entry V.exit denoted from_entry to_exit m (stage_valid V v) (entry_is V v) (exit_is V v) k is,
+      λ is. stays_to V.stage V.entry V.exit denoted from_entry to_exit m (stage_valid V v) (entry_is V v) (exit_is V v) k is,
+    )
 
     pub left_len : length left_bits ≡ V.stage.graph.nodes + 1
     left_len = length-both from_entry to_exit (m.to_exit_len ∙ sym m.from_entry_len) ∙ m.from_entry_len

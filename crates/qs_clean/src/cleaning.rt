@@ -1,7 +1,7 @@
 //! Cleaning.
 
-ghost use Rattle.std.specs.Prelude.{◌≤◌, IfOk, length};
-ghost use Rattle.qs_clean.specs.Cleaning.{IsLeft, IsClosureOfValid};
+ghost use Rattle.std.specs.Prelude.{◌≡◌, ◌≤◌, ◌↔◌, ℕ, IfOk, length, slice_index_or, true, false};
+ghost use Rattle.qs_clean.specs.Cleaning.{IsLeft, IsClosureOfValid, Stays};
 ghost use Rattle.qs_clean.specs.working.Steps.{AreMarks};
 
 use crate::arcs::{denoted_arcs, free_links, in_both, kept_arcs, left_arcs, numbered};
@@ -42,6 +42,24 @@ pub fn clean(alloc: Global, closure: &Closure) -> Result<Option<Graph>, AllocErr
     let entry = numbers.of[closure.entry as usize];
     let exit = numbers.of[closure.exit as usize];
     Ok(Some(Graph::of_valid(alloc, numbers.count, entry, exit, edges)))
+}
+
+/// For each arc of a closure over a valid graph, whether cleaning keeps it. Time and memory are linear in the arcs, the
+/// nodes and the firings.
+pub fn kept(alloc: Global, closure: &Closure) -> Result<Vec<bool>, AllocError>
+    requires { IsClosureOfValid closure.now }
+    ensures len { IfOk result (λ kept. length kept.items ≡ length closure.now.stage.graph.arcs) }
+    ensures stay { IfOk result (λ kept. (k : ℕ)
+        → (slice_index_or kept.items k false ≡ true) ↔ Stays closure.now.stage k) }
+{
+    let marks = marks_of(alloc, closure)?;
+    kept_arcs(
+        alloc,
+        &closure.edges,
+        &marks.denoted,
+        &marks.from_entry,
+        &marks.to_exit,
+    )
 }
 
 // The marks of a closure.

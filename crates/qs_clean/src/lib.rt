@@ -7,5 +7,5 @@ pub mod examples;
 pub mod laws;
 mod links;
 
-pub use cleaning::clean;
+pub use cleaning::{clean, kept};
 pub use std::alloc::AllocError as Memory;

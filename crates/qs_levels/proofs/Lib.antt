@@ -1,0 +1,16 @@
+pub mod Roots
+pub mod Bound
+pub mod Sides
+pub mod TopLists
+pub mod Places
+pub mod Numbering
+pub mod Stepping
+pub mod Passing
+pub mod Visiting
+pub mod Ordered
+pub mod Greatest
+pub mod Known
+pub mod Least
+pub mod Levelled
+pub mod ExistenceLists
+pub mod Existence
