@@ -273,4 +273,5 @@ def main():
     print("\nother systems installed: %s" % (", ".join(found) or "none"))
 
 
-main()
+if __name__ == "__main__":
+    main()

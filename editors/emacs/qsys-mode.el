@@ -57,7 +57,7 @@
     (,(regexp-opt '("-SYSTEME-" "-GRAPHE-" "-FIN-" "-VERSION-")) . font-lock-keyword-face)
     (,(regexp-opt '("-DANS-" "-HORS-" "-NON-" "-ET-" "-OU-" "-EGAL-")) . font-lock-builtin-face)
     ("-UNIQUE-" . font-lock-preprocessor-face)
-    (,(regexp-opt '("-VIDE-" "-LIMITE-" "-REFUS-" "-FAIT-")) . font-lock-warning-face)
+    (,(regexp-opt '("-VIDE-" "-LIMITE-" "-REFUS-" "-FAIT-" "-NIVEAUX-")) . font-lock-warning-face)
     ("-[1-9][0-9]*-" . font-lock-constant-face)
     ("\\_<[A-FI-NU-Z]\\*\\(?:[1-9][0-9]?\\)?" . font-lock-variable-name-face)
     ("\\_<[GHO-T]\\*" . font-lock-warning-face)

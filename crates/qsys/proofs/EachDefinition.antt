@@ -27,7 +27,9 @@ use Rattle.qsys.specs.declared.job.Command.TheVariants as command
 use Rattle.qsys.specs.declared.job.Job.{Job}
 use Rattle.qsys.specs.Texts.{refusal_line}
 use Rattle.qsys.specs.Defined.{IsDefined, of_refused, of_deck, of_made, Reads, IsDone, IsMadeOf, status_of, summary}
-use Rattle.qsys.proofs.GoingOn.{some_outcome}
+use Rattle.qsys.proofs.Outcomes.{some_outcome}
+use Rattle.qsys.proofs.Tellings.{some_explained}
+use Rattle.qsys.proofs.LevelsTold.{some_telling}
 
 -- a text means a deck or is refused
 abbrev pub SomeAnswer : Type 0
@@ -42,6 +44,10 @@ some_done command.Run reads L bytes version names grammars graph deck =
 some_done command.Check reads L bytes version names grammars graph deck = (deck_text version names grammars graph, Done, record { text_is = refl; status_is = refl })
 some_done command.Graph reads L bytes version names grammars graph deck = (graph_text names graph, Done, record { text_is = refl; status_is = refl })
 some_done command.Made reads L bytes version names grammars graph deck = absurd reads
+some_done command.Explain reads L bytes version names grammars graph deck =
+    let o = some_explained L names grammars (deck_accepted deck) graph deck.valid in (o.0, status_of o.1, record { ending = o.1; explains = o.2; status_is = refl })
+some_done command.Levels reads L bytes version names grammars graph deck =
+    let told = some_telling names grammars in (told.0, Done, record { tells = told.1; status_is = refl })
 
 some_read : SomeAnswer → (job : Job) → Reads job.command → (bytes : List ℕ) → (text : List ℕ) × (status : Status) × IsDefined job bytes text status
 some_read some job reads bytes =
@@ -87,6 +93,8 @@ some_for : SomeAnswer → (job : Job) (bytes : List ℕ) (which : Command) → j
 some_for some job bytes command.Run same = some_read some job (subst Reads (sym same) tt) bytes
 some_for some job bytes command.Check same = some_read some job (subst Reads (sym same) tt) bytes
 some_for some job bytes command.Graph same = some_read some job (subst Reads (sym same) tt) bytes
+some_for some job bytes command.Explain same = some_read some job (subst Reads (sym same) tt) bytes
+some_for some job bytes command.Levels same = some_read some job (subst Reads (sym same) tt) bytes
 some_for some job bytes command.Made same = let made = some_made job.limit job.size in (made.0, made.1, of_made same made.2)
 
 pub some_definition : SomeAnswer → (job : Job) (bytes : List ℕ) → (text : List ℕ) × (status : Status) × IsDefined job bytes text status

@@ -14,65 +14,69 @@ use Rattle.qsys.specs.declared.job.Command.TheVariants as command
 use Rattle.qsys.specs.declared.job.Job.{Job}
 use Rattle.qsys.specs.declared.status.Status.{Status}
 use Rattle.qsys.specs.declared.status.Status.TheVariants.{Done, Refused}
+use Rattle.qsys.specs.LevelTexts.{TellsLevels}
+use Rattle.qsys.specs.declared.telling.Telling.TheVariants as telling
 use Rattle.qsys.specs.Defined.{IsDefined, of_refused, of_deck, IsDone, Reads, status_of}
-use Rattle.qsys.specs.working.Cascading.{Delivers, DeliversCascade, IsAnswered, IsWritten}
+use Rattle.qsys.specs.working.Cascading.{DeliversCascade, IsAnswered, IsWritten}
 
--- the blocks of the cascade of a deck are what is defined for its text
-pub cascade_defined : (job : Job) (bytes : List ℕ) (version : ℕ) (names : List (List ℕ)) (grammars : List Grammar) (graph : QGraph) (old new : Option (List ℕ)) (answer : Status)
-    → job.command ≡ command.Run → IsDeckOf bytes version names grammars graph → DeliversCascade job.limit names graph grammars old new answer
-    → IsAnswered job bytes old new answer
-cascade_defined job bytes version names grammars graph old new answer run deck d =
-    inr (record {
-      text = d.text;
-      status = status_of d.ending;
-      defined =
-          of_deck (record {
-            version = version;
-            names = names;
-            grammars = grammars;
-            graph = graph;
-            deck = deck;
-            done =
-                subst (λ (which : Command). IsDone which job.limit version names grammars graph d.text (status_of d.ending)) (sym run)
-                (record { ending = d.ending; outcome = d.outcome; status_is = refl });
-          });
-      delivered = d.delivered;
-    })
+module _ (job : Job) (bytes : List ℕ) (version : ℕ) (names : List (List ℕ)) (grammars : List Grammar) (graph : QGraph) (deck : IsDeckOf bytes version names grammars graph) where
+  -- what is done with a deck is what is defined for its text
+  done_defined : (which : Command) (text : List ℕ) (status : Status) → job.command ≡ which → IsDone which job.limit version names grammars graph text status
+      → IsDefined job bytes text status
+  done_defined which text status is done =
+      of_deck (record {
+        version = version;
+        names = names;
+        grammars = grammars;
+        graph = graph;
+        deck = deck;
+        done = subst (λ (c : Command). IsDone c job.limit version names grammars graph text status) (sym is) done;
+      })
+
+  -- what is told of the cascade of a deck
+  pub cascade_defined : (old new : Option (List ℕ)) (answer : Status) → job.command ≡ command.Run
+      → DeliversCascade telling.Blocks job.limit names graph grammars old new answer → IsAnswered job bytes old new answer
+  cascade_defined old new answer run d =
+      inr (record {
+        text = d.text;
+        status = status_of d.ending;
+        defined = done_defined command.Run d.text (status_of d.ending) run (record { ending = d.ending; outcome = d.outcome; status_is = refl });
+        delivered = d.delivered;
+      })
+
+  pub explanation_defined : (old new : Option (List ℕ)) (answer : Status) → job.command ≡ command.Explain
+      → DeliversCascade telling.Supports job.limit names graph grammars old new answer → IsAnswered job bytes old new answer
+  explanation_defined old new answer explain d =
+      inr (record {
+        text = d.text;
+        status = status_of d.ending;
+        defined = done_defined command.Explain d.text (status_of d.ending) explain (record { ending = d.ending; explains = d.outcome; status_is = refl });
+        delivered = d.delivered;
+      })
+
+  -- a deck that is checked, its graph, and what is told of the levels of its grammars
+  pub check_defined : job.command ≡ command.Check → IsDefined job bytes (deck_text version names grammars graph) Done
+  check_defined check = done_defined command.Check (deck_text version names grammars graph) Done check (record { text_is = refl; status_is = refl })
+
+  pub graph_defined : job.command ≡ command.Graph → IsDefined job bytes (graph_text names graph) Done
+  graph_defined drawn = done_defined command.Graph (graph_text names graph) Done drawn (record { text_is = refl; status_is = refl })
+
+  pub levels_defined : job.command ≡ command.Levels → (text : List ℕ) → TellsLevels names grammars text → IsDefined job bytes text Done
+  levels_defined levels text tells = done_defined command.Levels text Done levels (record { tells = tells; status_is = refl })
 
 -- the line of a text that is refused
 pub refused_defined : (job : Job) (bytes : List ℕ) (refusal : Refusal) → Reads job.command → IsRefusalOf bytes refusal → IsDefined job bytes (refusal_line refusal) Refused
 refused_defined job bytes refusal reads is = of_refused reads (record { refusal = refusal; refused = is; text_is = refl; status_is = refl })
 
--- a deck that is checked, and its graph
-pub check_defined : (job : Job) (bytes : List ℕ) (version : ℕ) (names : List (List ℕ)) (grammars : List Grammar) (graph : QGraph) → job.command ≡ command.Check → IsDeckOf bytes version names grammars graph
-    → IsDefined job bytes (deck_text version names grammars graph) Done
-check_defined job bytes version names grammars graph check deck =
-    of_deck (record {
-      version = version;
-      names = names;
-      grammars = grammars;
-      graph = graph;
-      deck = deck;
-      done =
-          subst (λ (which : Command). IsDone which job.limit version names grammars graph (deck_text version names grammars graph) Done) (sym check)
-          (record { text_is = refl; status_is = refl });
-    })
-
-pub graph_defined : (job : Job) (bytes : List ℕ) (version : ℕ) (names : List (List ℕ)) (grammars : List Grammar) (graph : QGraph) → job.command ≡ command.Graph → IsDeckOf bytes version names grammars graph
-    → IsDefined job bytes (graph_text names graph) Done
-graph_defined job bytes version names grammars graph drawn deck =
-    of_deck (record {
-      version = version;
-      names = names;
-      grammars = grammars;
-      graph = graph;
-      deck = deck;
-      done = subst (λ (which : Command). IsDone which job.limit version names grammars graph (graph_text names graph) Done) (sym drawn) (record { text_is = refl; status_is = refl });
-    })
+-- a text of which this holds, for which it is defined, and which was written
+pub told_defined : {E : Type 0} (P : List ℕ → Type 0) (job : Job) (bytes : List ℕ) (old new : Option (List ℕ)) (answer : Status) (status : Status)
+    → ((text : List ℕ) → P text → IsDefined job bytes text status)
+    → (made : Result (Vec ℕ Global) E) → IfOk made (λ t. P t.items) → IsWritten made old new status answer → IsAnswered job bytes old new answer
+told_defined P job bytes old new answer status defined (Ok t) holds is = inr (record { text = t.items; status = status; defined = defined t.items holds; delivered = is })
+told_defined P job bytes old new answer status defined (Err e) holds is = inl is
 
 -- a text that is defined and was written
 pub written_defined : {E : Type 0} (job : Job) (bytes : List ℕ) (old new : Option (List ℕ)) (answer : Status) (text : List ℕ) (status : Status) → IsDefined job bytes text status
     → (made : Result (Vec ℕ Global) E) → IfOk made (λ t. t.items ≡ text) → IsWritten made old new status answer → IsAnswered job bytes old new answer
-written_defined job bytes old new answer text status defined (Ok t) same is =
-    inr (record { text = text; status = status; defined = defined; delivered = subst (λ (b : List ℕ). Delivers old new b status answer) same is })
-written_defined job bytes old new answer text status defined (Err e) same is = inl is
+written_defined job bytes old new answer text status defined made same is =
+    told_defined (λ t. t ≡ text) job bytes old new answer status (λ t e. subst (λ (b : List ℕ). IsDefined job bytes b status) (sym e) defined) made same is

@@ -39,7 +39,7 @@ use Rattle.qsys.proofs.Neighbours.{Chain, deck_chain, line_chain}
 use Rattle.qsys.proofs.PassingDecks.{IsPassedGrammar, deck_passed}
 use Rattle.qsys.proofs.OneLineNames.{total, one_line_names, as_many, are_on_one_line, keeps_lines, still_distinct, carries_back}
 use Rattle.qsys.proofs.Cutting.{back_writable}
-use Rattle.qsys.proofs.GoingOn.{all_accepted}
+use Rattle.qsys.proofs.Outcomes.{all_accepted}
 use Rattle.qsys.proofs.RenamedGrammars.{Carries, renamed_grammar}
 use Rattle.qsys.proofs.ReadUnderOthers.{chains_renamed}
 use Rattle.qsys.proofs.WrittenUnderOthers.{blocks_under}

@@ -1,5 +1,8 @@
 pub mod NodesFew
 pub mod Calls
+pub mod Outcomes
+pub mod Tellings
+pub mod LevelsTold
 pub mod GoingOn
 pub mod Starting
 pub mod OneDefinition

@@ -19,6 +19,8 @@ use Rattle.qsys.specs.Outcomes.{IsOutcome}
 use Rattle.qs_deck.specs.MadeDecks.{made_grammar, made_graph}
 use Rattle.qsys.specs.Defined.{IsDefined, of_refused, of_deck, of_made, IsDone, IsMadeOf, Reads, status_of, summary}
 use Rattle.qsys.specs.Answers.{KeepsToDefined}
+use Rattle.qsys.proofs.Tellings.{one_explanation}
+use Rattle.qsys.proofs.LevelsTold.{one_telling}
 
 -- a cascade has one outcome
 abbrev pub OneOutcome : Type 0
@@ -55,6 +57,10 @@ module _ (one_outcome : OneOutcome) where
   same_done command.Check L version names grammars graph t u s r a b = (a.text_is ∙ sym b.text_is, a.status_is ∙ sym b.status_is)
   same_done command.Graph L version names grammars graph t u s r a b = (a.text_is ∙ sym b.text_is, a.status_is ∙ sym b.status_is)
   same_done command.Made L version names grammars graph t u s r a b = absurd a
+  same_done command.Explain L version names grammars graph t u s r a b =
+      let both = one_explanation a.explains b.explains in
+      (both.0, a.status_is ∙ ap status_of both.1 ∙ sym b.status_is)
+  same_done command.Levels L version names grammars graph t u s r a b = (one_telling names grammars t u a.tells b.tells, a.status_is ∙ sym b.status_is)
 
   module _ (one_cascade : OneCascade) where
     -- of a made deck one thing is told

@@ -20,7 +20,7 @@ use Rattle.qsys.specs.Outcomes.{block, blocks, IsOutcome}
 use Rattle.qsys.specs.Cascading.{AreAccepted}
 use Rattle.qsys.specs.Pieces.{last_graph, Leaves}
 use Rattle.qsys.proofs.RenamedGrammars.{IsLeftNamed}
-use Rattle.qsys.proofs.GoingOn.{all_accepted}
+use Rattle.qsys.proofs.Outcomes.{all_accepted}
 
 -- one behind the other
 

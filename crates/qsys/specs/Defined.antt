@@ -16,6 +16,8 @@ use Rattle.qsys.specs.declared.status.Status.{Status}
 use Rattle.qsys.specs.declared.status.Status.TheVariants.{Done, Refused, Limit}
 use Rattle.qsys.specs.Texts.{refusal_line, summary_line, limit_line}
 use Rattle.qsys.specs.Outcomes.{IsOutcome}
+use Rattle.qsys.specs.Explanations.{Explains}
+use Rattle.qsys.specs.LevelTexts.{TellsLevels}
 
 -- A cascade that met the limit gives the status Limit, any other one Done.
 abbrev pub status_of : Ending → Status
@@ -28,6 +30,8 @@ Reads command.Run = Unit {0}
 Reads command.Check = Unit {0}
 Reads command.Graph = Unit {0}
 Reads command.Made = ⊥
+Reads command.Explain = Unit {0}
+Reads command.Levels = Unit {0}
 
 -- For a text that isn't accepted the line is defined that tells its first fault, whatever is to be done with it.
 pub record IsRefusal (bytes text : List ℕ) (status : Status) : Type 0 where
@@ -54,12 +58,27 @@ pub record IsGraphOf (names : List (List ℕ)) (graph : QGraph) (text : List ℕ
   pub text_is : text ≡ graph_text names graph
   pub status_is : status ≡ Done
 
+-- To explain is to write the blocks of the cascade, each of a graph with its support behind it.
+pub record IsExplainOf (limit : ℕ) (names : List (List ℕ)) (grammars : List Grammar) (graph : QGraph) (text : List ℕ)
+    (status : Status) : Type 0 where
+  pub ending : Ending
+  pub explains : Explains limit names graph grammars text ending
+  pub status_is : status ≡ status_of ending
+
+-- The command `levels` writes what is found of the levels of each grammar.
+pub record IsLevelsOf (names : List (List ℕ)) (grammars : List Grammar) (text : List ℕ) (status : Status) : Type 0 where
+  pub tells : TellsLevels names grammars text
+  pub status_is : status ≡ Done
+
 -- What is done with a deck that was read, by the command.
 abbrev pub IsDone : Command → ℕ → ℕ → List (List ℕ) → List Grammar → QGraph → List ℕ → Status → Type 0
 IsDone command.Run limit version names grammars graph text status = IsRunOf limit names grammars graph text status
 IsDone command.Check limit version names grammars graph text status = IsCheckOf version names grammars graph text status
 IsDone command.Graph limit version names grammars graph text status = IsGraphOf names graph text status
 IsDone command.Made limit version names grammars graph text status = ⊥
+IsDone command.Explain limit version names grammars graph text status =
+    IsExplainOf limit names grammars graph text status
+IsDone command.Levels limit version names grammars graph text status = IsLevelsOf names grammars text status
 
 -- With an accepted text the command is done.
 pub record IsAnswer (job : Job) (bytes text : List ℕ) (status : Status) : Type 0 where

@@ -13,7 +13,7 @@ use Rattle.clap.specs.Simple.{on_top}
 use Rattle.clap.specs.declared.builder.ArgAction.TheVariants.{Set}
 use Rattle.clap.specs.declared.builder.value_parser.ValueParser.TheVariants as parser
 use Rattle.qsys.specs.declared.job.Command.{Command}
-use Rattle.qsys.specs.declared.job.Command.TheVariants.{Run, Check, Graph, Made}
+use Rattle.qsys.specs.declared.job.Command.TheVariants.{Run, Check, Graph, Made, Explain, Levels}
 use Rattle.qsys.specs.declared.job.Job.{Job}
 use Rattle.qsys.specs.Limits.{most_limit, most_workers as most_of_workers, most_size as most_of_size}
 
@@ -64,6 +64,8 @@ command_of word =
     else if bytes_eq word (codes "check") then Some Check
     else if bytes_eq word (codes "graph") then Some Graph
     else if bytes_eq word (codes "made") then Some Made
+    else if bytes_eq word (codes "explain") then Some Explain
+    else if bytes_eq word (codes "levels") then Some Levels
     else None
 
 -- The number that the option of this name has among the arguments, in decimal.

@@ -1,4 +1,6 @@
 -- Working definitions: private functions and proofs need them, and no public contract cites one.
 pub mod Ends
+pub mod Named
+pub mod Telling
 pub mod Options
 pub mod Cascading

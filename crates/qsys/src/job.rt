@@ -11,6 +11,10 @@ pub enum Command {
     Graph,
     /// Make a deck, run its grammar, and write a line that tells what is left. Nothing is read.
     Made,
+    /// Do what `Run` does, and behind each graph that is left tell in comments where its arcs come from.
+    Explain,
+    /// Read a deck, and write for each grammar the levels that bound its rounds on every graph.
+    Levels,
 }
 
 /// A job: what is to be done, the most firings that a grammar may need, from 1 to 1,000,000, how many workers do it,

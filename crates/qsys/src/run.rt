@@ -3,19 +3,21 @@
 ghost use Rattle.std.specs.Prelude.{◌≡◌, ◌≢◌, ◌⊎◌, ◌≤◌, ℕ, List, Some, Result, Ok, Err, IfOk, length, map};
 ghost use Rattle.qs_graphtext.specs.Texts.{graph_text};
 ghost use Rattle.qs_io.specs.Limits.{most_text_bytes};
-ghost use Rattle.qs_deck.specs.Decks.{grammar_of};
+ghost use Rattle.qs_deck.specs.Decks.{grammar_of, IsDeckOf};
 ghost use Rattle.qs_deck.specs.Texts.{deck_text};
 ghost use Rattle.qsys.specs.Words.{IsLimit};
 ghost use Rattle.qsys.specs.Defined.{Reads};
 ghost use Rattle.qsys.specs.Answers.{EndsAsDefined, IsOfWholeText};
 ghost use Rattle.qsys.specs.Calls.{DoesJob, HasCause, TellsWriteFaults};
-ghost use Rattle.qsys.specs.working.Cascading.{IsAnswered, IsWritten};
+ghost use Rattle.qsys.specs.working.Cascading.{DeliversCascade, IsAnswered, IsWritten};
 
 use crate::cascade::cascade;
 use crate::job::{Command, Job};
+use crate::levels::levels_text;
 use crate::refusals::refusal_line;
 use crate::status::Status;
 use crate::summaries::{made_end, status_of, summary};
+use crate::telling::{Teller, Telling};
 use qs_deck::{Deck, DeckEnd, read_deck, write_deck};
 use qs_graphtext::write_graph;
 use qs_io::{ReadEnd, Sink, Source, read_all, write_all};
@@ -56,6 +58,35 @@ fn write_text<K: Sink>(sink: &mut K, text: Result<Vec<u8>, AllocError>, status: 
     }
 }
 
+/// Runs the grammars of the deck on its graph, and writes what is told of each; `cascade` tells the answers.
+fn run_deck<K: Sink>(
+    alloc: Global,
+    deck: Deck,
+    limit: u32,
+    telling: Telling,
+    sink: &mut K,
+) -> Status
+    requires limit { IsLimit limit }
+    requires deck { (bytes : List ℕ) × IsDeckOf bytes deck.version deck.names (map grammar_of deck.systems.items)
+        deck.graph }
+    ensures delivers { DeliversCascade telling limit deck.names deck.graph (map grammar_of deck.systems.items)
+        (K.written sink.old) (K.written sink.new) result }
+    ensures writes { TellsWriteFaults (K.faults sink.old) (K.faults sink.new) result }
+{
+    let Deck {
+        names,
+        systems,
+        graph,
+        ..
+    } = deck;
+    let teller = Teller {
+        names: &names,
+        limit,
+        telling,
+    };
+    cascade(alloc, &teller, &systems, graph, sink)
+}
+
 /// Does the job with the text that was read. `Memory` comes where memory was wanting: before anything was written, or
 /// with a proper prefix of the text that is defined.
 fn answer<K: Sink>(alloc: Global, job: &Job, bytes: &[u8], sink: &mut K) -> Status
@@ -74,17 +105,17 @@ fn answer<K: Sink>(alloc: Global, job: &Job, bytes: &[u8], sink: &mut K) -> Stat
         Err(DeckEnd::Memory) => return Status::Memory,
     };
     match job.command {
-        Command::Run => {
-            let Deck {
-                names,
-                systems,
-                graph,
-                ..
-            } = deck;
-            cascade(alloc, &names, &systems, graph, job.limit, sink)
-        }
+        Command::Run => run_deck(alloc, deck, job.limit, Telling::Blocks, sink),
+        Command::Explain => run_deck(alloc, deck, job.limit, Telling::Supports, sink),
         Command::Check => write_text(sink, deck_text(alloc, &deck), Status::Done),
         Command::Graph => write_text(sink, graph_text(alloc, &deck), Status::Done),
+        Command::Levels => {
+            write_text(
+                sink,
+                levels_text(alloc, &deck.names, &deck.systems),
+                Status::Done,
+            )
+        }
         Command::Made => unreachable!(),
     }
 }
@@ -169,7 +200,9 @@ pub fn run_still<S: Source, K: Sink>(
     ensures not_usage { result ≢ Status.Usage }
 {
     match job.command {
-        Command::Run | Command::Check | Command::Graph => read_and_answer(alloc, job, source, sink),
+        Command::Run | Command::Check | Command::Graph | Command::Explain | Command::Levels => {
+            read_and_answer(alloc, job, source, sink)
+        }
         Command::Made => tell_made(alloc, job, sink),
     }
 }

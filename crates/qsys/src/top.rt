@@ -14,7 +14,8 @@ use qs_io::{Sink, Source, write_all};
 use std::alloc::Global;
 
 /// What is written for words that give no job.
-const USAGE: &[u8] = b"usage: qsys run|check|graph|made [--limit N] [--workers N] [--size N]\n";
+const USAGE: &[u8] =
+    b"usage: qsys run|check|graph|made|explain|levels [--limit N] [--workers N] [--size N]\n";
 
 /// Writes the usage line. `WriteFault` comes only where the sink failed; then a proper prefix of the line was written.
 pub fn write_usage<K: Sink>(sink: &mut K) -> Status

@@ -83,6 +83,8 @@ fn command_of(word: &str) -> Option<Command>
         "check" => Some(Command::Check),
         "graph" => Some(Command::Graph),
         "made" => Some(Command::Made),
+        "explain" => Some(Command::Explain),
+        "levels" => Some(Command::Levels),
         _ => None,
     }
 }

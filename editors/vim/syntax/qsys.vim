@@ -23,7 +23,7 @@ syntax match qsysNode /-[1-9]\d*-/
 syntax match qsysSection /-\%(SYSTEME\|GRAPHE\|FIN\|VERSION\)-/
 syntax match qsysCondition /-\%(DANS\|HORS\|NON\|ET\|OU\|EGAL\)-/
 syntax match qsysMark /-UNIQUE-/
-syntax match qsysAnswer /-\%(VIDE\|LIMITE\|REFUS\|FAIT\)-/
+syntax match qsysAnswer /-\%(VIDE\|LIMITE\|REFUS\|FAIT\|NIVEAUX\)-/
 
 " The name of a grammar.
 syntax match qsysName /\%(-SYSTEME-\s*\)\@<=[[:alnum:]_'\x80-\U10FFFF]\+/

@@ -11,8 +11,9 @@ use Rattle.qs_deck.specs.Decks.{Grammar}
 use Rattle.qsys.specs.declared.job.Job.{Job}
 use Rattle.qsys.specs.declared.status.Status.{Status}
 use Rattle.qsys.specs.declared.status.Status.TheVariants.{WriteFault, Memory}
-use Rattle.qsys.specs.Outcomes.{IsOutcome}
+use Rattle.qsys.specs.declared.telling.Telling.{Telling}
 use Rattle.qsys.specs.Defined.{IsDefined, status_of}
+use Rattle.qsys.specs.working.Telling.{Tells}
 
 -- Of a text that is to be written with this status, all was written, and the answer is the status; or a proper
 -- prefix, and the answer is that the sink failed or that memory was wanting.
@@ -27,12 +28,12 @@ abbrev pub IsWritten : {E : Type 0} → Result (Vec ℕ Global) E → Option (Li
 IsWritten (Ok text) old new status answer = Delivers old new text.items status answer
 IsWritten (Err e) old new status answer = (answer ≡ Memory) × (new ≡ old)
 
--- The blocks of a cascade were delivered.
-pub record DeliversCascade (limit : ℕ) (names : List (List ℕ)) (graph : QGraph) (grammars : List Grammar)
-    (old new : Option (List ℕ)) (answer : Status) : Type 0 where
+-- What is told of a cascade was delivered.
+pub record DeliversCascade (telling : Telling) (limit : ℕ) (names : List (List ℕ)) (graph : QGraph)
+    (grammars : List Grammar) (old new : Option (List ℕ)) (answer : Status) : Type 0 where
   pub text : List ℕ
   pub ending : Ending
-  pub outcome : IsOutcome limit names graph grammars text ending
+  pub outcome : Tells telling limit names graph grammars text ending
   pub delivered : Delivers old new text (status_of ending) answer
 
 -- The text that is defined was delivered.
@@ -54,11 +55,11 @@ pub record CanGoOn (names : List (List ℕ)) (graph : QGraph) (grammars : ℕ) :
   pub arcs : length graph.arcs + 16000000 * grammars ≤ 4200000000
   pub nodes : graph.nodes + 16000000 * grammars ≤ 4200000000
 
--- Some grammars of a cascade from a graph have been run and have left the graph `now`; their blocks were written. The
--- others go on with that graph: what they leave is what is left to write.
-pub record HasCome (limit : ℕ) (names : List (List ℕ)) (graph : QGraph) (grammars : List Grammar)
+-- Some grammars of a cascade from a graph have been run and have left the graph `now`; what is told of them was
+-- written. The others go on with that graph: what is told of them is what is left to write.
+pub record HasCome (telling : Telling) (limit : ℕ) (names : List (List ℕ)) (graph : QGraph) (grammars : List Grammar)
     (old new : Option (List ℕ)) (now : QGraph) (others : List Grammar) : Type 0 where
   pub front : List ℕ
   pub written : new ≡ append_known old front
-  pub goes_on : (text : List ℕ) (ending : Ending) → IsOutcome limit names now others text ending
-      → IsOutcome limit names graph grammars (front ++ text) ending
+  pub goes_on : (text : List ℕ) (ending : Ending) → Tells telling limit names now others text ending
+      → Tells telling limit names graph grammars (front ++ text) ending

@@ -1,0 +1,55 @@
+-- What is told of a cascade, and of one of its grammars.
+use Rattle.std.specs.Prelude.{◌≡◌, ℕ, List, [], ◌++◌, Option, None, Some}
+use Rattle.qs_tree.specs.declared.cell.Label.{Label}
+use Rattle.qs_pattern.specs.Rules.{Rule}
+use Rattle.qs_graph.specs.Graphs.{QGraph}
+use Rattle.qs_canon.specs.Closures.{ClosureOf}
+use Rattle.qs_clean.specs.Cascades.{Ending}
+use Rattle.qs_cascade.specs.Stages.{LeavesGraph}
+use Rattle.qs_cascade.specs.declared.stage.StageEnd.{StageEnd}
+use Rattle.qs_cascade.specs.declared.stage.StageEnd.TheVariants as end
+use Rattle.qs_explain.specs.Support.{SupportOf, IsSupport}
+use Rattle.qs_explain.specs.Texts.{support_text}
+use Rattle.qs_deck.specs.Decks.{Grammar}
+use Rattle.qsys.specs.declared.telling.Telling.{Telling}
+use Rattle.qsys.specs.declared.telling.Telling.TheVariants as telling
+use Rattle.qsys.specs.Outcomes.{block, IsOutcome}
+use Rattle.qsys.specs.Explanations.{Explains}
+use Rattle.qsys.specs.working.Ends.{left_of}
+
+-- The text that is told of the cascade of these grammars from the graph, and how it ends.
+abbrev pub Tells : Telling → ℕ → List (List ℕ) → QGraph → List Grammar → List ℕ → Ending → Type 0
+Tells telling.Blocks L names G grammars text ending = IsOutcome L names G grammars text ending
+Tells telling.Supports L names G grammars text ending = Explains L names G grammars text ending
+
+-- The graph H is left of a closure, with whose support this is written.
+pub record IsSupported (L : ℕ) (names : List (List ℕ)) (R : List Rule) (G H : QGraph) (firings : ℕ) (text : List ℕ)
+    : Type 0 where
+  pub leaves : LeavesGraph R G L firings H
+  pub support : SupportOf
+  pub is : IsSupport leaves.closure support
+  pub text_is : text ≡ support_text names leaves.closure support
+
+-- What stands behind the block of a grammar with these rules that is explained, by what it leaves of G.
+abbrev pub IsBehind : ℕ → List (List ℕ) → List Rule → QGraph → StageEnd → List ℕ → Type 0
+IsBehind L names R G (end.Left H firings) text = IsSupported L names R G H firings text
+IsBehind L names R G (end.Empty firings) text = text ≡ []
+IsBehind L names R G end.Over text = text ≡ []
+
+-- What stands there, by the closure, where there is one, and what is left of it.
+abbrev pub IsSupportIn : List (List ℕ) → Option ClosureOf → StageEnd → List ℕ → Type 0
+IsSupportIn names None e text = text ≡ []
+IsSupportIn names (Some c) (end.Left H firings) text =
+    (s : SupportOf) × IsSupport c.stage s × (text ≡ support_text names c.stage s)
+IsSupportIn names (Some c) (end.Empty firings) text = text ≡ []
+IsSupportIn names (Some c) end.Over text = text ≡ []
+
+-- A text of which this holds was appended.
+abbrev pub IsAppended : (List ℕ → Type 0) → List ℕ → List ℕ → Type 0
+IsAppended P old new = (text : List ℕ) × P text × (new ≡ old ++ text)
+
+-- The text that is told of a grammar with this name and these rules, by what it leaves of G.
+abbrev pub IsTold : Telling → ℕ → List (List ℕ) → Label → List Rule → QGraph → StageEnd → List ℕ → Type 0
+IsTold telling.Blocks L names name R G e text = text ≡ block L names name (left_of e)
+IsTold telling.Supports L names name R G e text =
+    IsAppended (IsBehind L names R G e) (block L names name (left_of e)) text

@@ -1,0 +1,133 @@
+//! Running one grammar, and telling what it left.
+
+ghost use Rattle.std.specs.Prelude.{◌≡◌, ◌<◌, ◌≤◌, ◌+◌, ◌*◌, ◌^◌, ◌-◌, IfOk, IfSome, OnOk, length};
+ghost use Rattle.qs_pattern.specs.Limits.{most_patterns};
+ghost use Rattle.qs_graphtext.specs.Texts.{AreArcsNamed};
+ghost use Rattle.qs_clean.specs.Cleaning.{IsClosureOfValid};
+ghost use Rattle.qs_cascade.specs.Stages.{GrowsWithin, IsStageEnd, MakesNoLabels};
+ghost use Rattle.qs_deck.specs.Named.{IsSystemNamed};
+ghost use Rattle.qsys.specs.Words.{IsLimit};
+ghost use Rattle.qsys.specs.working.Telling.{IsAppended, IsSupportIn, IsTold};
+
+use crate::blocks::block;
+use qs_canon::Closure;
+use qs_cascade::{StageEnd, closure_alone, end_behind, stage_alone};
+use qs_deck::System;
+use qs_explain::{explain, write_support};
+use qs_graph::Graph;
+use qs_tree::Names;
+use std::alloc::{AllocError, Global};
+
+/// What is told of each grammar.
+#[derive(Clone, Copy, Debug, PartialEq, Eq)]
+pub enum Telling {
+    /// The block of what it left.
+    Blocks,
+    /// The block, and behind that of a graph the support of the closure of which it was left.
+    Supports,
+}
+
+/// What is the same for all grammars of a cascade: the names of the labels, the limit on the firings of each, and what
+/// is told of each.
+#[derive(Drop)]
+pub struct Teller<'a> {
+    pub names: &'a Names,
+    pub limit: u32,
+    pub telling: Telling,
+}
+
+/// What a grammar left, and the text that tells it.
+#[derive(Drop)]
+pub struct Told {
+    pub end: StageEnd,
+    pub text: Vec<u8>,
+}
+
+impl Teller<'_> {
+    /// Runs the grammar on the graph, and tells what it left.
+    pub fn tell(&self, alloc: Global, system: &System, graph: &Graph) -> Result<Told, AllocError>
+        requires limit { IsLimit self.now.limit }
+        requires arcs { length graph.now.arcs + most_patterns * self.now.limit ≤ 2 ^ 32 - 1 }
+        requires nodes { graph.now.nodes + most_patterns * self.now.limit ≤ 2 ^ 32 - 1 }
+        requires named { IsSystemNamed (length self.now.names.now) system.now }
+        requires arcs_named { AreArcsNamed (length self.now.names.now) graph.now.arcs }
+        ensures end { IfOk result (λ told. IsStageEnd system.now.rules.items graph.now self.now.limit told.end) }
+        ensures grows { IfOk result (λ told. GrowsWithin graph.now self.now.limit told.end) }
+        ensures labels { IfOk result (λ told. MakesNoLabels system.now.rules.items graph.now told.end) }
+        ensures told { IfOk result (λ told. IsTold self.now.telling self.now.limit self.now.names.now system.now.name
+            system.now.rules.items graph.now told.end told.text.items) }
+    {
+        match self.telling {
+            Telling::Blocks => self.tell_block(alloc, system, graph),
+            Telling::Supports => self.tell_support(alloc, system, graph),
+        }
+    }
+
+    // Tells its block.
+    fn tell_block(&self, alloc: Global, system: &System, graph: &Graph) -> Result<Told, AllocError>
+        requires limit { IsLimit self.now.limit }
+        requires arcs { length graph.now.arcs + most_patterns * self.now.limit ≤ 2 ^ 32 - 1 }
+        requires nodes { graph.now.nodes + most_patterns * self.now.limit ≤ 2 ^ 32 - 1 }
+        requires named { IsSystemNamed (length self.now.names.now) system.now }
+        requires arcs_named { AreArcsNamed (length self.now.names.now) graph.now.arcs }
+        ensures end { IfOk result (λ told. IsStageEnd system.now.rules.items graph.now self.now.limit told.end) }
+        ensures grows { IfOk result (λ told. GrowsWithin graph.now self.now.limit told.end) }
+        ensures labels { IfOk result (λ told. MakesNoLabels system.now.rules.items graph.now told.end) }
+        ensures told { IfOk result (λ told. IsTold Telling.Blocks self.now.limit self.now.names.now system.now.name
+            system.now.rules.items graph.now told.end told.text.items) }
+    {
+        let end = stage_alone(alloc, &system.rules, graph, self.limit)?;
+        let text = block(alloc, self.names, system.name, self.limit, &end)?;
+        Ok(Told { end, text })
+    }
+
+    // Tells its block, and behind that of a graph the support of the closure.
+    fn tell_support(
+        &self,
+        alloc: Global,
+        system: &System,
+        graph: &Graph,
+    ) -> Result<Told, AllocError>
+        requires limit { IsLimit self.now.limit }
+        requires arcs { length graph.now.arcs + most_patterns * self.now.limit ≤ 2 ^ 32 - 1 }
+        requires nodes { graph.now.nodes + most_patterns * self.now.limit ≤ 2 ^ 32 - 1 }
+        requires named { IsSystemNamed (length self.now.names.now) system.now }
+        requires arcs_named { AreArcsNamed (length self.now.names.now) graph.now.arcs }
+        ensures end { IfOk result (λ told. IsStageEnd system.now.rules.items graph.now self.now.limit told.end) }
+        ensures grows { IfOk result (λ told. GrowsWithin graph.now self.now.limit told.end) }
+        ensures labels { IfOk result (λ told. MakesNoLabels system.now.rules.items graph.now told.end) }
+        ensures told { IfOk result (λ told. IsTold Telling.Supports self.now.limit self.now.names.now system.now.name
+            system.now.rules.items graph.now told.end told.text.items) }
+    {
+        let closure = closure_alone(alloc, &system.rules, graph, self.limit)?;
+        let end = end_behind(alloc, &closure)?;
+        let mut text = block(alloc, self.names, system.name, self.limit, &end)?;
+        append_support(alloc, self.names, &closure, &end, &mut text)?;
+        Ok(Told { end, text })
+    }
+}
+
+/// Appends the support of the closure, where a graph was left of it.
+fn append_support(
+    alloc: Global,
+    names: &Names,
+    closure: &Option<Closure>,
+    end: &StageEnd,
+    out: &mut Vec<u8>,
+) -> Result<(), AllocError>
+    requires valid { IfSome closure.now IsClosureOfValid }
+    requires few { IfSome closure.now (λ c. length c.stage.done < 2 ^ 32) }
+    requires named { IfSome closure.now (λ c. AreArcsNamed (length names.now) c.stage.graph.arcs) }
+    ensures { OnOk result (IsAppended (IsSupportIn names.now closure.now end.now) out.old.items out.new.items) }
+{
+    match closure {
+        Some(closure) => match end {
+            StageEnd::Left { .. } => {
+                let support = explain(alloc, closure)?;
+                write_support(alloc, closure, &support, names, out)
+            }
+            StageEnd::Empty { .. } | StageEnd::Over => Ok(()),
+        },
+        None => Ok(()),
+    }
+}

@@ -1,0 +1,6 @@
+-SYSTEME- S.
+LE + CHAT == GN(LE,CHAT).
+GN(U*) + DORT == P(GN(U*),V(DORT)).
+-GRAPHE-
+-1- LE + CHAT + DORT -2-.
+-FIN-

@@ -1,0 +1,9 @@
+-SYSTEME- PHRASES.
+LE + CHAT == GN(CHAT).
+LA + SOURIS == GN(SOURIS).
+VOIT + GN(U*) == GV(VOIR,GN(U*)).
+GN(U*) + GV(V*) == P(GN(U*),GV(V*)).
+LA == PRON.
+-GRAPHE-
+-1- LE + CHAT + VOIT + LA + SOURIS -2-.
+-FIN-
