@@ -10,6 +10,10 @@ use Rattle.qs_turn.specs.Seats.{IsIdle, IsServed}
 abbrev pub passes_of : {T E : Type 0} → Turns T E → ℕ
 passes_of t = t.table.shared.key.passes
 
+-- The value with which the turns were opened.
+abbrev pub opened_value : {T E : Type 0} → Turns T E → T
+opened_value t = t.table.shared.key.value.value
+
 module _ {T E : Type 0} {g : Ghosts T E} where
   -- `open` gave the pass with these turns.
   abbrev pub IsPassOf : Turns T E → Pass T E g → Type 0

@@ -22,6 +22,10 @@ const SERVING: usize = 1;
 
 const HISTORY: usize = 2;
 
+// How often a pass looks whether its ticket is served before it gives way to other threads. A turn is short, and a
+// thread that gave way comes back much later where there is other work.
+const MOST_LOOKS: u32 = 1000;
+
 // Its one slot, which has the value while no pass holds a turn.
 const VALUE: usize = 0;
 
@@ -69,7 +73,7 @@ impl<T: Told> Turns<T> {
     ghost use Rattle.qs_turn.specs.Seats.{IsIdle, IsServed};
     ghost use Rattle.qs_turn.specs.working.Seats.{IsSameSeat, IsWaiting, HasTaken, IsGivingBack};
     ghost use Rattle.qs_turn.specs.Passes.{passes_of, IsPassOf, IsSamePass, HoldsNoTurn, HoldsTurn, KnowsBase};
-    ghost use Rattle.qs_turn.specs.Passes.{number_of, seen_of, turns_of, AreNewPasses};
+    ghost use Rattle.qs_turn.specs.Passes.{opened_value, number_of, seen_of, turns_of, AreNewPasses};
 
     /// The turns on a value, and their passes, as many as `passes` says. These are numbered from 0 in order, know the
     /// value's base, have seen the value's history, have taken no turn and hold none.
@@ -80,6 +84,7 @@ impl<T: Told> Turns<T> {
         T: Drop,
         requires { 1 ≤ passes }
         ensures count { IfOk result (λ r. (passes_of r.0 ≡ passes) × (vec_len r.1 ≡ passes)) }
+        ensures opened { IfOk result (λ r. opened_value r.0 ≡ value) }
         ensures own { IfOk result (λ r. All (λ p. IsPassOf r.0 p × HoldsNoTurn p) r.1.items) }
         ensures each { IfOk result (λ r. AreNewPasses T.base r.0 (T.base value) (T.history value) r.1.items) }
     {
@@ -160,11 +165,16 @@ impl<T: Told> Turns<T> {
             (seen_of pass.new) }
     {
         let ticket = self.draw(&mut pass.seat);
+        let mut looks = 0;
         for _ in rt.forever() {
             if let Some(held) = self.take_if_served(&mut pass.seat, ticket) {
                 return held;
             }
-            thread::yield_now();
+            if looks < MOST_LOOKS {
+                looks += 1;
+            } else {
+                thread::yield_now();
+            }
         }
         unreachable!()
     }

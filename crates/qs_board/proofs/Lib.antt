@@ -1,0 +1,4 @@
+pub mod Histories
+pub mod Staying
+pub mod Turns
+pub mod Crossing
