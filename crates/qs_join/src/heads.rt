@@ -22,8 +22,8 @@ pub struct Heads {
     wild: Vec<(u32, u32)>,
 }
 
-/// The root that a tree must have to stand at the pattern; None where any root does.
-pub fn asked_root(pattern: &Pattern) -> Option<Label>
+// The root that a tree must have to stand at the pattern; None where any root does.
+fn asked_root(pattern: &Pattern) -> Option<Label>
     ensures { result ≡ root_of pattern.now }
 {
     match pattern {

@@ -16,19 +16,21 @@ use crate::heads::Heads;
 use crate::search::{Search, find_at};
 use qs_firing::{Firing, Joined, Made, View, order};
 use qs_pattern::{Rule, instance};
-use qs_tree::Tree;
+use qs_tree::{Tree, TreeRef};
 use std::alloc::{AllocError, Global};
 use std::cmp::Ordering;
 use std::sync::Arc;
 
-// Appends the firings whose path has the newest arc at one of these places. The buffer is empty before and after.
-fn find_all(
+// Appends the firings whose path has the newest arc at one of these places. The buffer of the path is empty before and
+// after; what that of the trees holds doesn't matter.
+fn find_all<'a>(
     alloc: Global,
-    rules: &[Rule],
-    view: &View,
+    rules: &'a [Rule],
+    view: &'a View,
     newest: u32,
     places: &[(u32, u32)],
     buffer: &mut Vec<u32>,
+    trees: &mut Vec<TreeRef<'a>>,
     found: &mut Vec<Firing>,
 ) -> Result<(), AllocError>
     requires newest { newest < length view.now }
@@ -45,7 +47,7 @@ fn find_all(
             view,
             newest,
         };
-        find_at(alloc, &search, place.1, buffer, found)?;
+        find_at(alloc, &search, place.1, buffer, trees, found)?;
     }
     Ok(())
 }
@@ -64,6 +66,7 @@ fn found_of(
 {
     let mut found = Vec::new(alloc);
     let mut buffer = Vec::new(alloc);
+    let mut trees = Vec::new(alloc);
     let root = view.edge(newest).tree.view().root();
     find_all(
         alloc,
@@ -72,6 +75,7 @@ fn found_of(
         newest,
         heads.exact(root),
         &mut buffer,
+        &mut trees,
         &mut found,
     )?;
     find_all(
@@ -81,6 +85,7 @@ fn found_of(
         newest,
         heads.wild(),
         &mut buffer,
+        &mut trees,
         &mut found,
     )?;
     Ok(found)

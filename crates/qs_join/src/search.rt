@@ -2,7 +2,7 @@
 //! then to the right. It recurses over the places of the side, of which there are at most 16.
 
 ghost use Rattle.std.specs.Prelude.{◌≡◌, ◌<◌, ◌≤◌, ◌+◌, ◌∷◌, ◌++◌, [], ℕ, List, length, OnOk, slice_get, Some};
-ghost use Rattle.std.specs.Prelude.{true, false, IfOk, None};
+ghost use Rattle.std.specs.Prelude.{true, false, IfOk};
 ghost use Rattle.qs_tree.specs.Lists.{◌∈◌};
 ghost use Rattle.qs_tree.specs.Trees.{Tree};
 ghost use Rattle.qs_pattern.specs.Patterns.{count};
@@ -12,14 +12,12 @@ ghost use Rattle.qs_graph.specs.Graphs.{IsPath, trees_on};
 ghost use Rattle.qs_firing.specs.Firings.{Firing as FiringOfRule};
 ghost use Rattle.qs_firing.specs.Neighbours.{starts, ends};
 ghost use Rattle.qs_join.specs.working.Searching.{AreUpTo, FiresBy, Through, Finds};
-ghost use Rattle.qs_join.specs.working.Listing.{root_of};
 ghost use Rattle.qs_join.specs.working.Matching.{HasValues};
 
-use crate::heads::asked_root;
-use qs_firing::{Firing, View, is_allowed, trees_on};
-use qs_match::all_matches;
-use qs_pattern::{Pattern, Rule, Subst};
-use qs_tree::Label;
+use qs_firing::{Firing, View, is_allowed};
+use qs_match::{all_matches_apart, can_stand_for};
+use qs_pattern::{Rule, Subst};
+use qs_tree::TreeRef;
 use std::alloc::{AllocError, Global};
 
 /// Where firings are looked for: a rule and its number, the arcs, and the greatest of them that a path may have.
@@ -31,18 +29,8 @@ pub struct Search<'a> {
     pub newest: u32,
 }
 
-// Whether a tree with this root can stand at the pattern, as far as the root says.
-fn can_be_root(pattern: &Pattern, root: Label) -> bool
-    ensures { result ≡ false → (root_of pattern.now ≡ None → ⊥) × (root_of pattern.now ≡ Some root → ⊥) }
-{
-    match asked_root(pattern) {
-        Some(label) => label == root,
-        None => true,
-    }
-}
-
-// Whether an arc may be at this place of a path: it isn't greater than the newest one, and its tree has a root that can
-// stand there. Where it says no, no firing's path has it there.
+// Whether an arc may be at this place of a path: it isn't greater than the newest one, and the pattern there can stand
+// for its tree. Where it says no, no firing's path has it there.
 fn can_stand(search: &Search<'_>, place: usize, arc: u32) -> bool
     requires arc { arc < length search.now.view.now }
     requires place { place < count search.now.rule.now.left }
@@ -54,8 +42,8 @@ fn can_stand(search: &Search<'_>, place: usize, arc: u32) -> bool
     if arc > search.newest {
         return false;
     }
-    let root = search.view.edge(arc).tree.view().root();
-    can_be_root(&search.rule.left()[place], root)
+    let tree = search.view.edge(arc).tree.view();
+    can_stand_for(&search.rule.left()[place], tree)
 }
 
 // Appends the firings of the rule on a path, one for each of these matches that its condition allows.
@@ -85,28 +73,34 @@ fn add_matches(
     Ok(())
 }
 
-// The matches of the rule's left side with the trees on a path. The tree of a path of one arc is not copied.
-fn matches_on(alloc: Global, search: &Search<'_>, path: &[u32]) -> Result<Vec<Subst>, AllocError>
-    requires { (a : ℕ) × (b : ℕ) × IsPath search.now.view.now a path.now b }
+// The matches of the rule's left side with the trees on a path, which is as long as the side. No tree is copied; the
+// buffer, whose trees don't matter, is filled with those on the path.
+fn matches_on<'a>(
+    alloc: Global,
+    search: &Search<'a>,
+    path: &[u32],
+    trees: &mut Vec<TreeRef<'a>>,
+) -> Result<Vec<Subst>, AllocError>
+    requires path { (a : ℕ) × (b : ℕ) × IsPath search.now.view.now a path.now b }
+    requires long { length path.now ≡ count search.now.rule.now.left }
     ensures sound { IfOk result (λ v. (s : Substitution) → s ∈ v.items
         → IsMatch search.now.rule.now.left (trees_on search.now.view.now path.now) s) }
     ensures all { IfOk result (λ v. (s : Substitution)
         → IsMatch search.now.rule.now.left (trees_on search.now.view.now path.now) s → s ∈ v.items) }
 {
-    let side = search.rule.left();
-    if let [arc] = path {
-        let tree = search.view.edge(*arc).tree.view();
-        return all_matches(alloc, side, tree.alone());
+    trees.clear();
+    for arc in path {
+        trees.push(search.view.edge(*arc).tree.view())?;
     }
-    let trees = trees_on(alloc, search.view, path)?;
-    all_matches(alloc, side, trees.view())
+    all_matches_apart(alloc, search.rule.left(), trees)
 }
 
 // The firings on a path that is as long as the rule's left side.
-fn fire(
+fn fire<'a>(
     alloc: Global,
-    search: &Search<'_>,
+    search: &Search<'a>,
     path: &[u32],
+    trees: &mut Vec<TreeRef<'a>>,
     found: &mut Vec<Firing>,
 ) -> Result<(), AllocError>
     requires path { (a : ℕ) × (b : ℕ) × IsPath search.now.view.now a path.now b }
@@ -115,17 +109,18 @@ fn fire(
     ensures { OnOk result (Finds (Through search.now.number search.now.rule.now search.now.view.now search.now.newest 0
         path.now) found.old.items found.new.items) }
 {
-    let matches = matches_on(alloc, search, path)?;
+    let matches = matches_on(alloc, search, path, trees)?;
     add_matches(alloc, search, path, matches, found)
 }
 
 // The firings whose path begins with this one, which ends at the node `at`. The path is given back as it was.
 #[cycle(right)]
-fn extend_right(
+fn extend_right<'a>(
     alloc: Global,
-    search: &Search<'_>,
+    search: &Search<'a>,
     at: u32,
     path: &mut Vec<u32>,
+    trees: &mut Vec<TreeRef<'a>>,
     found: &mut Vec<Firing>,
 ) -> Result<(), AllocError>
     requires path { (a : ℕ) × IsPath search.now.view.now a path.old.items at }
@@ -136,11 +131,11 @@ fn extend_right(
     ensures path { OnOk result (path.new.items ≡ path.old.items) }
 {
     if path.len() == search.rule.left().len() {
-        return fire(alloc, search, path, found);
+        return fire(alloc, search, path, trees, found);
     }
     let mut next = search.view.last_out(at);
     while let Some(arc) = next {
-        step_right(alloc, search, arc, path, found)?;
+        step_right(alloc, search, arc, path, trees, found)?;
         next = search.view.before_out(arc);
     }
     Ok(())
@@ -148,11 +143,12 @@ fn extend_right(
 
 // The same for the path with this arc behind it.
 #[cycle(right)]
-fn step_right(
+fn step_right<'a>(
     alloc: Global,
-    search: &Search<'_>,
+    search: &Search<'a>,
     arc: u32,
     path: &mut Vec<u32>,
+    trees: &mut Vec<TreeRef<'a>>,
     found: &mut Vec<Firing>,
 ) -> Result<(), AllocError>
     requires path { (a : ℕ) × (b : ℕ) × IsPath search.now.view.now a path.old.items b
@@ -168,7 +164,7 @@ fn step_right(
     }
     let edge = search.view.edge(arc);
     path.push(arc)?;
-    extend_right(alloc, search, edge.to, path, found)?;
+    extend_right(alloc, search, edge.to, path, trees, found)?;
     path.pop();
     Ok(())
 }
@@ -176,13 +172,14 @@ fn step_right(
 // The firings whose path goes on with this one behind `before` arcs; it leads from one node to the other. The path is
 // given back as it was.
 #[cycle(left)]
-fn extend_left(
+fn extend_left<'a>(
     alloc: Global,
-    search: &Search<'_>,
+    search: &Search<'a>,
     before: usize,
     from: u32,
     to: u32,
     path: &mut Vec<u32>,
+    trees: &mut Vec<TreeRef<'a>>,
     found: &mut Vec<Firing>,
 ) -> Result<(), AllocError>
     requires path { IsPath search.now.view.now from path.old.items to }
@@ -193,11 +190,11 @@ fn extend_left(
     ensures path { OnOk result (path.new.items ≡ path.old.items) }
 {
     if before == 0 {
-        return extend_right(alloc, search, to, path, found);
+        return extend_right(alloc, search, to, path, trees, found);
     }
     let mut next = search.view.last_in(from);
     while let Some(arc) = next {
-        step_left(alloc, search, before - 1, arc, to, path, found)?;
+        step_left(alloc, search, before - 1, arc, to, path, trees, found)?;
         next = search.view.before_in(arc);
     }
     Ok(())
@@ -205,13 +202,14 @@ fn extend_left(
 
 // The same for the path with this arc in front of it.
 #[cycle(left)]
-fn step_left(
+fn step_left<'a>(
     alloc: Global,
-    search: &Search<'_>,
+    search: &Search<'a>,
     before: usize,
     arc: u32,
     to: u32,
     path: &mut Vec<u32>,
+    trees: &mut Vec<TreeRef<'a>>,
     found: &mut Vec<Firing>,
 ) -> Result<(), AllocError>
     requires path { (a : ℕ) × IsPath search.now.view.now a path.old.items to
@@ -227,18 +225,19 @@ fn step_left(
     }
     let edge = search.view.edge(arc);
     path.insert(0, arc)?;
-    extend_left(alloc, search, before, edge.from, to, path, found)?;
+    extend_left(alloc, search, before, edge.from, to, path, trees, found)?;
     path.remove(0);
     Ok(())
 }
 
-/// Appends the firings whose path has the newest arc at this place of the rule's left side. The buffer is empty before
-/// and after.
-pub fn find_at(
+/// Appends the firings whose path has the newest arc at this place of the rule's left side. The buffer of the path is
+/// empty before and after; what that of the trees holds doesn't matter.
+pub fn find_at<'a>(
     alloc: Global,
-    search: &Search<'_>,
+    search: &Search<'a>,
     place: u32,
     buffer: &mut Vec<u32>,
+    trees: &mut Vec<TreeRef<'a>>,
     found: &mut Vec<Firing>,
 ) -> Result<(), AllocError>
     requires newest { search.now.newest < length search.now.view.now }
@@ -248,6 +247,9 @@ pub fn find_at(
         search.now.newest place (search.now.newest ∷ [])) found.old.items found.new.items) }
     ensures empty { OnOk result (buffer.new.items ≡ []) }
 {
+    if !can_stand(search, place as usize, search.newest) {
+        return Ok(());
+    }
     let edge = search.view.edge(search.newest);
     buffer.push(search.newest)?;
     extend_left(
@@ -257,6 +259,7 @@ pub fn find_at(
         edge.from,
         edge.to,
         buffer,
+        trees,
         found,
     )?;
     buffer.pop();

@@ -78,7 +78,7 @@ kids_extend (head.Var v) vs s r e =
     let b = binding h.0 e h.1 in
     (b.0, bind_to b.1 e h.1)
 
-root_is : (h : Head) (r : Substitution) (u : Tree) → label_of r h ≡ u.root → CanBeRoot h u.root
+pub root_is : (h : Head) (r : Substitution) (u : Tree) → label_of r h ≡ u.root → CanBeRoot h u.root
 root_is (head.Label l) r u e = e
 root_is (head.Var v) r u e = tt
 

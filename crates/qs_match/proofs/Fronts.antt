@@ -63,7 +63,7 @@ pub record Splits (tasks : Tasks) (s : Substitution) (v : Var) (n : ℕ) (old ne
   pub are : new ≡ old ++ found
   pub lists : Lists (ShortSolves tasks s v n) found
 
-same_front : (a b x y : List Tree) → length a ≡ length b → a ++ x ≡ b ++ y → a ≡ b
+pub same_front : (a b x y : List Tree) → length a ≡ length b → a ++ x ≡ b ++ y → a ≡ b
 same_front [] [] x y n e = refl
 same_front [] (u ∷ b) x y n e = absurd (omega arith)
 same_front (t ∷ a) [] x y n e = absurd (omega arith)

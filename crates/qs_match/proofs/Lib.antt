@@ -11,3 +11,5 @@ pub mod Variables
 pub mod Variants
 pub mod Measures
 pub mod Calls
+pub mod Never
+pub mod Joining

@@ -1,2 +1,4 @@
+pub mod Apart
+pub mod Fitting
 pub mod Order
 pub mod working
