@@ -13,7 +13,7 @@ pub times-append : (n : ℕ) (xs ys : List ℕ) → times n (xs ++ ys) ≡ times
 times-append n [] ys = omega arith
 times-append n (x ∷ xs) ys = let e = times-append n xs ys in omega (arith, e)
 
-times-take : (n : ℕ) (xs : List ℕ) (i : ℕ) → times n (take i xs) ≤ times n xs
+pub times-take : (n : ℕ) (xs : List ℕ) (i : ℕ) → times n (take i xs) ≤ times n xs
 times-take n [] zero = omega arith
 times-take n [] (suc i) = omega arith
 times-take n (x ∷ xs) zero = omega arith
@@ -138,7 +138,7 @@ module _ (old users new before ready : List ℕ) (i : ℕ) (h : i < length users
       subst (λ xs. AreCountedDown old xs (set new x left) before ready') (sym (take_more users i 0 h))
       (counted_more old (take i users) new (x ∷ []) (set new x left) before ready ready' a (counted_one new x left within is ready ready' r))
 
-uses-append : (users : List (Vec ℕ Global)) (xs ys : List ℕ) → uses users (xs ++ ys) ≡ uses users xs ++ uses users ys
+pub uses-append : (users : List (Vec ℕ Global)) (xs ys : List ℕ) → uses users (xs ++ ys) ≡ uses users xs ++ uses users ys
 uses-append users [] ys = refl
 uses-append users (x ∷ xs) ys = ap (λ zs. users_at users x ++ zs) (uses-append users xs ys) ∙ sym (append_assoc (users_at users x) (uses users xs) (uses users ys))
 

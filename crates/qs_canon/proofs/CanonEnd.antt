@@ -4,7 +4,7 @@ use Rattle.qs_graph.specs.Graphs.{IsEntry, IsExit}
 use Rattle.qs_core.specs.Core.{fired}
 use Rattle.qs_core.specs.Runs.{Machine}
 use Rattle.qs_canon.specs.Rounds.{Stage, Closes}
-use Rattle.qs_canon.specs.working.Numbering.{IsNumbering}
+use Rattle.qs_canon.specs.Numbering.{IsNumbering}
 use Rattle.qs_canon.specs.working.CanonNumbers.{table_of, AllAre}
 use Rattle.qs_canon.specs.working.CanonSteps.{IsFinal}
 use Rattle.qs_canon.proofs.Canonical as canonical

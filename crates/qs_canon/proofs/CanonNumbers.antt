@@ -41,10 +41,10 @@ module _ (fired : List Fired) (i : ℕ) (d : Fired) (h : i < length fired) (at :
 
 -- ---- lists of the firings that use an arc
 
-if_eq : (a b n : ℕ) → a ≡ b → (if a == b then n else 0) ≡ n
+pub if_eq : (a b n : ℕ) → a ≡ b → (if a == b then n else 0) ≡ n
 if_eq a b n e = ap (λ t. if t then n else 0) (eq-eqb a b e)
 
-if_ne : (a b n : ℕ) → (a ≡ b → ⊥) → (if a == b then n else 0) ≡ 0
+pub if_ne : (a b n : ℕ) → (a ≡ b → ⊥) → (if a == b then n else 0) ≡ 0
 if_ne a b n e = ap (λ t. if t then n else 0) (ne_eqb a b e)
 
 users_set_same : (xs : List (Vec ℕ Global)) (k : ℕ) (w : Vec ℕ Global) → k < length xs → users_at (set xs k w) k ≡ w.items

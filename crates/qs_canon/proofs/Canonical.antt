@@ -11,9 +11,9 @@ use Rattle.qs_graph.specs.Graphs.{Arc, QGraph, Leads}
 use Rattle.qs_firing.specs.Firings.{Firing, Fires}
 use Rattle.qs_firing.specs.Adding.{adds, met, from_on, result_by, result_arcs, start_of, end_of}
 use Rattle.qs_firing.proofs.Merging.{arc, least_is, meeting}
-use Rattle.qs_firing.proofs.Within.{within_trans, within_adds, within_refl, fires_stays, length-adds}
+use Rattle.qs_firing.proofs.Within.{within_trans, within_adds, within_refl, fires_stays, leads_stays, length-adds}
 use Rattle.qs_core.specs.Growth.{Grown, DoneAt, AllApart}
-use Rattle.qs_core.proofs.Growth.{at_last, grown_more, apart_more}
+use Rattle.qs_core.proofs.Growth.{at_last, grown_more, apart_more, start_is, end_is}
 use Rattle.qs_core.proofs.Twins.{HasEnds, valid_ends, no_twins}
 use Rattle.qs_canon.specs.Rounds.{Round, Rounds, Stage, firings, after, after_one, Closes}
 use Rattle.qs_canon.specs.Carrying.{AreSame}
@@ -22,10 +22,11 @@ use Rattle.qs_canon.specs.working.CanonTables.{IsNextOf, IsRecorded, Table, open
 use Rattle.qs_canon.proofs.Histories.{stands, at_of, in_of, adding}
 use Rattle.qs_canon.proofs.Same.{one_arc, one_node, turned_arc, turned_path, turned_node, turned_firing}
 use Rattle.qs_canon.proofs.Results.{in_from_on}
-use Rattle.qs_canon.proofs.Carried.{all_arcs, all_nodes, carried_fires, closed_partners, image_over, same_results, Partner}
+use Rattle.qs_canon.proofs.Carried.{all_arcs, all_nodes, carried_fires, carried_start, carried_path, same_length, closed_partners, image_over, same_results, Partner}
 use Rattle.qs_canon.proofs.Reached.{same_more, same_node_more, after_within}
 use Rattle.qs_canon.proofs.Stages.{rounds_grown, rounds_apart, firings-one, firings-after, grown_after, closes_all}
 use Rattle.qs_canon.proofs.Law.{arc_low, node_low, are_same_with, no_more}
+use Rattle.qs_canon.proofs.Counting.{fewer_numbers}
 
 module _ (R : List Rule) (G : QGraph) (ends : (arc : Arc) → arc ∈ G.arcs → (arc.from ≤ G.nodes) × (arc.to ≤ G.nodes))
     (fs : List Firing) (H : QGraph) (grown : Grown R G fs H) (once : AllApart fs) (closed : (f : Firing) → Fires R H.arcs f → f ∈ fs)
@@ -103,6 +104,17 @@ each_from_on Rel (suc m) n n' all =
           subst (λ x. Rel x (n' + 1 + j)) d (subst (λ x. Rel (n + suc j) x) d' (all (suc j) (omega arith)))),
     )
 
+each_at : (Rel : ℕ → ℕ → Type 0) (m n n' : ℕ) → Each Rel (from_on n m) (from_on n' m) → (j : ℕ) → j < m → Rel (n + j) (n' + j)
+each_at Rel zero n n' e j h = absurd (omega arith)
+each_at Rel (suc m) n n' (r, e) zero h =
+    let d : n ≡ n + 0 = omega arith in
+    let d' : n' ≡ n' + 0 = omega arith in
+    subst (λ x. Rel x (n' + 0)) d (subst (λ x. Rel n x) d' r)
+each_at Rel (suc m) n n' (r, e) (suc j) h =
+    let d : n + 1 + j ≡ n + suc j = omega arith in
+    let d' : n' + 1 + j ≡ n' + suc j = omega arith in
+    subst (λ x. Rel x (n' + suc j)) d (subst (λ x. Rel (n + 1 + j) x) d' (each_at Rel m (n + 1) (n' + 1) e j (omega arith)))
+
 path_each : {R : List Rule} {G : QGraph} {fs gs : List Firing} {H K : QGraph} {ks ls : List ℕ} → SamePath R G fs gs H K ks ls → Each (SameArc R G fs gs H K) ks ls
 path_each no_arc = tt
 path_each (and_arc s t) = (s, path_each t)
@@ -163,6 +175,16 @@ module _ (R : List Rule) (G : QGraph) (fs : List Firing) (H : QGraph) (X : IsRec
   pub few : length gs ≤ length fs
   few = no_more R G ends gs fs K H grown' X.grown once' X.once back_partners
 
+  pub few_arcs : length K.arcs ≤ length H.arcs
+  few_arcs = fewer_numbers (λ l k. SameArc R G fs gs H K k l) (λ l m k s t. one_there k l m s t) (length K.arcs) (length H.arcs)
+      (λ l h. let (k, s) = back_arc l h in (k, arc_low R G fs gs H K X.grown s, s))
+
+  pub few_nodes : K.nodes ≤ H.nodes
+  few_nodes =
+      let h = fewer_numbers (λ m n. SameNode R G fs gs H K n m) (λ m l n s t. one_node R G fs gs H K X.grown once' (λ u. no_twins R G ends u gs K grown') s t) (K.nodes + 1) (H.nodes + 1)
+      (λ m h. let (n, s) = back_node m (omega arith) in let low = node_low R G fs gs H K X.grown s in (n, omega (arith, low), s)) in
+      omega (arith, h)
+
   module _ (T : Table) (table : IsTable R G fs H gs K T) where
     pub path_of : (ks ls : List ℕ) → AreNumbered T ks ls → SamePath R G fs gs H K ks ls
     path_of [] [] a = no_arc
@@ -192,10 +214,10 @@ module _ (R : List Rule) (G : QGraph) (fs : List Firing) (H : QGraph) (X : IsRec
       abbrev K' : QGraph
       K' = adds R K g
 
-      grown'' : Grown R G more K'
+      pub grown'' : Grown R G more K'
       grown'' = grown_more R G gs K g grown' (numbered_fires f ls (in_of R G fs f P fa) a)
 
-      once'' : AllApart more
+      pub once'' : AllApart more
       once'' = apart_more gs g once' new
 
       g_at : DoneAt R G more g K
@@ -232,6 +254,31 @@ module _ (R : List Rule) (G : QGraph) (fs : List Firing) (H : QGraph) (X : IsRec
       each_new : Each (SameNode R G fs more H K') (new_nodes R P f) (new_nodes R K g)
       each_new = each_from_on (SameNode R G fs more H K') (width R f - 1) (P.nodes + 1) (K.nodes + 1)
           (λ j h. node_of_firing f g P K (j + 1) fa g_at refl refl (stay (path_of f.path ls a)) (omega arith) (omega arith) (omega arith) (omega arith))
+
+      -- the ends of its path
+      pub same_ends : SameNode R G fs gs H K (start_of P.arcs f.path) (start_of K.arcs g.path) × SameNode R G fs gs H K (end_of P.arcs f.path) (end_of K.arcs g.path)
+      same_ends =
+          let s = stands R G fs H f P X.grown fa in
+          let leads = leads_stays (within_trans (within_adds R P f) s.after) s.fires.from f.path s.fires.to s.fires.path.leads in
+          let p = path_of f.path ls a in
+          let (a', sa) = carried_start R G ends fs gs H K X.grown grown' once' p s.fires.from s.fires.to s.fires.path.some leads in
+          let c = carried_path R G ends fs gs H K X.grown grown' once' p s.fires.from a' s.fires.to sa leads in
+          let some : 0 < length ls = omega (arith, same_length p, s.fires.path.some) in
+          let ea = start_is P.arcs s.fires.from f.path s.fires.to s.fires.path in
+          let eb = end_is P.arcs s.fires.from f.path s.fires.to s.fires.path in
+          let ea' = start_is K.arcs a' ls c.end (record { some = some; leads = c.leads }) in
+          let eb' = end_is K.arcs a' ls c.end (record { some = some; leads = c.leads }) in (
+            subst (λ x. SameNode R G fs gs H K x (start_of K.arcs ls)) (sym ea) (subst (λ x. SameNode R G fs gs H K s.fires.from x) (sym ea') sa),
+            subst (λ x. SameNode R G fs gs H K x (end_of K.arcs ls)) (sym eb) (subst (λ x. SameNode R G fs gs H K s.fires.to x) (sym eb') c.same),
+          )
+
+      -- none of its nodes has a number yet
+      pub fresh_nodes : (N : Table) → IsNodeTable R G fs H gs K N → (j m : ℕ) → j + 1 < width R f → N (P.nodes + 1 + j) ≡ Some m → ⊥
+      fresh_nodes N nodes j m h e =
+          let s = (nodes (P.nodes + 1 + j) m).0 e in
+          let low : m ≤ K.nodes = node_low R G gs fs K H grown' (turned_node s) in
+          let d = one_n (P.nodes + 1 + j) m (K.nodes + 1 + j) (stays_node s) (each_at (SameNode R G fs more H K') (width R f - 1) (P.nodes + 1) (K.nodes + 1) each_new j (omega (arith, h))) in
+          omega (arith, low, d)
 
       -- its nodes get their numbers
       pub nodes_more : (N : Table) → IsNodeTable R G fs H gs K N → IsNodeTable R G fs H more K' (numbered (new_nodes R P f) (new_nodes R K g) N)
@@ -296,6 +343,16 @@ module _ (R : List Rule) (G : QGraph) (fs : List Firing) (H : QGraph) (X : IsRec
               tested None d p s low =
                   let q : from_on (length K.arcs) (width R g) ≡ l ∷ [] = sym (ap (λ o. result_by o (length K.arcs) (width R g)) d) ∙ single p s in
                   absurd (omega (arith, first (length K.arcs) (width R g) q))
+
+      -- where it meets none, none of its results has a number yet
+      pub fresh_arcs : met R K g ≡ None → (first : ℕ) → result_arcs R P f ≡ from_on first (width R f) → (j l : ℕ) → j < width R f → T (first + j) ≡ Some l → ⊥
+      fresh_arcs u first is j l h e =
+          let s = (table (first + j) l).0 e in
+          let low : l < length K.arcs = arc_low R G gs fs K H grown' (turned_arc s) in
+          let is' : result_arcs R K g ≡ from_on (length K.arcs) (width R f) = ap (λ o. result_by o (length K.arcs) (width R g)) u in
+          let p = subst (λ ks. SamePath R G fs more H K' ks (from_on (length K.arcs) (width R f))) is (subst (λ ls. SamePath R G fs more H K' (result_arcs R P f) ls) is' results) in
+          let d = one' (first + j) l (length K.arcs + j) (stays s) (each_at (SameArc R G fs more H K') (width R f) first (length K.arcs) (path_each p) j h) in
+          omega (arith, low, d)
 
       -- its results get their numbers
       pub table_more : IsTable R G fs H more K' (numbered (result_arcs R P f) (result_arcs R K g) T)
@@ -382,7 +439,7 @@ module _ (R : List Rule) (G : QGraph) (fs : List Firing) (H : QGraph) (X : IsRec
       (subst (λ ys. SameArc R G (fs ++ []) ys H S.graph k l) (sym (firings-after R (suc n) B F)) (same_more [] F H S.graph (within_refl H H refl) (after_within R (suc n) B F) s))
 
   -- numbers below the arcs of B were there in B
-  earlier : (ks ls : List ℕ) → AreNumbered T' ks ls → ((l : ℕ) → l ∈ ls → l < length B.graph.arcs) → AreNumbered T ks ls
+  pub earlier : (ks ls : List ℕ) → AreNumbered T' ks ls → ((l : ℕ) → l ∈ ls → l < length B.graph.arcs) → AreNumbered T ks ls
   earlier [] [] a low = tt
   earlier [] (l ∷ ls) a low = absurd a
   earlier (k ∷ ks) [] a low = absurd a
@@ -427,7 +484,7 @@ apart_middle [] y ys a i = absurd i
 apart_middle (x ∷ xs) y ys (n, a) (inl e) = n (in_append_right xs (y ∷ ys) x (inl (sym e)))
 apart_middle (x ∷ xs) y ys (n, a) (inr i) = apart_middle xs y ys a i
 
-after-one : (R : List Rule) (n : ℕ) (S : Stage) (E : List Firing) (g : Firing) → after R n S (E ++ g ∷ []) ≡ after_one R n (after R n S E) g
+pub after-one : (R : List Rule) (n : ℕ) (S : Stage) (E : List Firing) (g : Firing) → after R n S (E ++ g ∷ []) ≡ after_one R n (after R n S E) g
 after-one R n S [] g = refl
 after-one R n S (f ∷ E) g = after-one R n (after_one R n S f) E g
 

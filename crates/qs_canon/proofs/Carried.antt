@@ -30,7 +30,7 @@ same_ends {P} {H} w path {x = x} {y = y} {a = a} {b = b} p q =
     let r : IsPath H.arcs x path y = record { some = p.some; leads = leads_stays w x path y p.leads } in
     (start_is P.arcs x path y p ∙ sym (start_is H.arcs x path y r) ∙ start_is H.arcs a path b q, end_is P.arcs x path y p ∙ sym (end_is H.arcs x path y r) ∙ end_is H.arcs a path b q)
 
-same_length : {R : List Rule} {G : QGraph} {fs gs : List Firing} {H K : QGraph} {ks ls : List ℕ} → SamePath R G fs gs H K ks ls → length ks ≡ length ls
+pub same_length : {R : List Rule} {G : QGraph} {fs gs : List Firing} {H K : QGraph} {ks ls : List ℕ} → SamePath R G fs gs H K ks ls → length ks ≡ length ls
 same_length no_arc = refl
 same_length (and_arc s t) = ap suc (same_length t)
 

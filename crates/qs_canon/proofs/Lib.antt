@@ -20,3 +20,8 @@ pub mod CanonNumbers
 pub mod Canonical
 pub mod CanonEnd
 pub mod CanonStart
+pub mod CanonPassed
+pub mod CanonChains
+pub mod CanonPlaces
+pub mod CanonDoing
+pub mod CanonRounds

@@ -4,5 +4,5 @@ pub mod Same
 pub mod CanonCounts
 pub mod CanonTables
 pub mod CanonNumbers
+pub mod CanonChains
 pub mod CanonSteps
-pub mod Numbering

@@ -11,4 +11,5 @@ pub mod run_laws;
 mod waiting;
 
 pub use closure::{Closure, Placed};
+pub use numbering::{Numbering, canon};
 pub use std::alloc::AllocError as Memory;

@@ -9,10 +9,12 @@ ghost use Rattle.qs_firing.specs.Adding.{from_on};
 ghost use Rattle.qs_core.specs.Core.{fired};
 ghost use Rattle.qs_canon.specs.working.CanonNumbers.{table_of, AllAre, renumbered};
 ghost use Rattle.qs_canon.specs.working.CanonNumbers.{IsReadyAt, AreInNumbers, NeverFalls};
-ghost use Rattle.qs_canon.specs.working.CanonSteps.{stage_of, IsBetween, IsFinal, IsAtWork, IsOneOf};
+ghost use Rattle.qs_canon.specs.working.CanonNumbers.{IsInNumbers};
+ghost use Rattle.qs_canon.specs.working.CanonChains.{Chain, IsUnnumbered, IsChainAdded};
+ghost use Rattle.qs_canon.specs.working.CanonSteps.{stage_of, firings_in, IsBetween, IsFinal, IsAtWork, IsOneOf};
 ghost use Rattle.qs_firing.specs.Firings.{Firing as FiringOfRule};
 ghost use Rattle.qs_canon.specs.Rounds.{Stage};
-ghost use Rattle.qs_canon.specs.working.Numbering.{IsNumbering};
+ghost use Rattle.qs_canon.specs.Numbering.{IsNumbering};
 
 use crate::closure::{Closure, Placed};
 use crate::numbering::Numbering;
@@ -146,9 +148,19 @@ impl Numbers {
         })
     }
 
-    /// For each arc of the closure so far, its number in the run.
-    pub fn origins(&self) -> &[u32] {
-        &self.origins
+    /// How many arcs the closure so far has.
+    pub fn arcs(&self) -> usize
+        ensures { result ≡ length self.now.origins.items }
+    {
+        self.origins.len()
+    }
+
+    /// For each arc of the closure so far, from this one on, its number in the run.
+    pub fn origins_from(&self, first: usize) -> &[u32]
+        requires { first ≤ length self.now.origins.items }
+        ensures { result.now ≡ drop first self.now.origins.items }
+    {
+        &self.origins[first..]
     }
 
     /// The recorded firings at these places, with their paths in canonical numbers. All arcs of their paths have such
@@ -196,6 +208,87 @@ impl Numbers {
         self.edges.push(Edge { from, to, tree })?;
         self.origins.push(arc)?;
         self.arcs[arc as usize] = Some(number);
+        Ok(())
+    }
+
+    // Gives the arcs of a result their numbers, from this one on up to the first that leads to a node that has one, and
+    // the nodes on the way.
+    fn add_result(&mut self, end: &State, first: u32) -> Result<(), AllocError>
+        requires { (c : Chain) × IsUnnumbered end.now.machine.state.graph self.old first c }
+        ensures { OnOk result ((c : Chain) → IsUnnumbered end.now.machine.state.graph self.old first c
+            → IsChainAdded first c self.old self.new) }
+    {
+        for arc in first..end.arcs() {
+            let edge = end.edge(arc);
+            if self.nodes[edge.to as usize].is_some() {
+                self.add_arc(arc, edge)?;
+                return Ok(());
+            }
+            self.last_node += 1;
+            self.nodes[edge.to as usize] = Some(self.last_node);
+            self.add_arc(arc, edge)?;
+        }
+        Ok(())
+    }
+
+    // Does the next firing of a round, which is a recorded one in canonical numbers. It meets an arc exactly where the
+    // first arc of its recorded result has a number.
+    fn place(
+        &mut self,
+        end: &State,
+        fired: &Fired,
+        firing: Firing,
+        round: u32,
+    ) -> Result<(), AllocError>
+        requires at_work { (n : ℕ) × (S : Stage) × (E : List FiringOfRule) × (F : List FiringOfRule)
+            × (round ≡ n + 1) × IsAtWork end.now.machine self.old n S E (firing ∷ F) }
+        requires one { IsOneOf end.now.machine self.old.arcs.items fired.now firing }
+        ensures work { OnOk result ((n : ℕ) (S : Stage) (E F : List FiringOfRule) → round ≡ n + 1
+            → IsAtWork end.now.machine self.old n S E (firing ∷ F)
+            → IsAtWork end.now.machine self.new n S (E ++ firing ∷ []) F) }
+        ensures stay { OnOk result ((ks ls : List ℕ) → AreNumbered (table_of self.old.arcs.items) ks ls
+            → AreNumbered (table_of self.new.arcs.items) ks ls) }
+    {
+        if let Some(first) = self.arcs[fired.first as usize] {
+            self.placed.push(Placed {
+                firing,
+                first,
+                round,
+                met: true,
+            })?;
+            return Ok(());
+        }
+        let first = self.edges.len() as u32;
+        self.add_result(end, fired.first)?;
+        self.placed.push(Placed {
+            firing,
+            first,
+            round,
+            met: false,
+        })?;
+        Ok(())
+    }
+
+    /// Does the firings of this round in their order.
+    pub fn do_round(
+        &mut self,
+        end: &State,
+        firings: Vec<Next>,
+        round: u32,
+    ) -> Result<(), AllocError>
+        requires at_work { (n : ℕ) × (S : Stage) × (round ≡ n + 1)
+            × IsAtWork end.now.machine self.old n S [] (firings_in firings.items) }
+        requires recorded { (next : Next) → next ∈ firings.items
+            → IsInNumbers (table_of self.old.arcs.items) end.now.machine.state.done next.place next }
+        ensures work { OnOk result ((n : ℕ) (S : Stage) → round ≡ n + 1
+            → IsAtWork end.now.machine self.old n S [] (firings_in firings.items)
+            → IsAtWork end.now.machine self.new n S (firings_in firings.items) []) }
+        ensures stay { OnOk result ((ks ls : List ℕ) → AreNumbered (table_of self.old.arcs.items) ks ls
+            → AreNumbered (table_of self.new.arcs.items) ks ls) }
+    {
+        for Next { place, firing } in firings {
+            self.place(end, &end.fired()[place as usize], firing, round)?;
+        }
         Ok(())
     }
 
