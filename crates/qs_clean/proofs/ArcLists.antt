@@ -8,7 +8,8 @@ use Rattle.qs_tree.specs.Lists.{◌∈◌}
 use Rattle.qs_tree.proofs.Members.{mapped, in_map}
 use Rattle.qs_graph.specs.Graphs.{Arc, arcs_at}
 use Rattle.qs_clean.specs.declared.links.Link.{Link}
-use Rattle.qs_clean.specs.working.Links.{IsMarked, Reaches, here, onward, turned}
+use Rattle.qs_clean.specs.Marks.{IsMarked}
+use Rattle.qs_clean.specs.working.Links.{Reaches, here, onward, turned}
 use Rattle.qs_clean.specs.working.Steps.{each_pair, free_link, keeps_mark, marked, numbered_arc, if_kept}
 use Rattle.qs_clean.proofs.Exploring.{reaches_more}
 use Rattle.qs_clean.proofs.Places.{places}

@@ -4,7 +4,7 @@ use Rattle.std.proofs.lemmas.List.{take_more, take_all, drop_more, drop_all, app
 use Rattle.qs_tree.specs.Lists.{◌∈◌}
 use Rattle.qs_tree.proofs.Members.{from_append, in_append_left, in_append_right}
 use Rattle.qs_canon.specs.Rounds.{Done}
-use Rattle.qs_clean.specs.working.Links.{IsMarked}
+use Rattle.qs_clean.specs.Marks.{IsMarked}
 use Rattle.qs_clean.specs.working.Steps.{IsUsed, each_pair, marked, numbering}
 use Rattle.qs_clean.proofs.Exploring.{set_still, set_marked, set_only, none_of-replicate}
 

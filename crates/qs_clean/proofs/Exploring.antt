@@ -4,7 +4,8 @@ use Rattle.std.proofs.lemmas.List.{length-replicate}
 use Rattle.qs_tree.specs.Lists.{◌∈◌}
 use Rattle.qs_tree.proofs.Members.{from_append, in_append_left, in_append_right}
 use Rattle.qs_clean.specs.declared.links.Link.{Link}
-use Rattle.qs_clean.specs.working.Links.{IsMarked, Reaches, here, onward, AreGroups, unmarked, AreMarked}
+use Rattle.qs_clean.specs.Marks.{IsMarked}
+use Rattle.qs_clean.specs.working.Links.{Reaches, here, onward, AreGroups, unmarked, AreMarked}
 
 -- what is marked is within the list
 pub marked_within : (marks : List Bool) (n : ℕ) → IsMarked marks n → n < length marks

@@ -7,7 +7,8 @@ use Rattle.qs_tree.proofs.Members.{from_append, in_append_right}
 use Rattle.qs_graph.proofs.Paths.{leads-append}
 use Rattle.qs_canon.specs.Rounds.{Stage}
 use Rattle.qs_clean.specs.declared.links.Link.{Link}
-use Rattle.qs_clean.specs.working.Links.{IsMarked, Reaches, here, onward}
+use Rattle.qs_clean.specs.Marks.{IsMarked}
+use Rattle.qs_clean.specs.working.Links.{Reaches, here, onward}
 use Rattle.qs_clean.specs.working.Steps.{each_pair, free_link, keeps_mark, both, AreMarks}
 use Rattle.qs_clean.specs.Cleaning.{IsDenoted, Stays, IsEndOf}
 use Rattle.qs_clean.proofs.Exploring.{reaches_more}

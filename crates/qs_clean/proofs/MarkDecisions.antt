@@ -5,7 +5,8 @@ use Rattle.qs_tree.proofs.Decisions.{decide_number, decide_member}
 use Rattle.qs_firing.specs.Firings.{Firing}
 use Rattle.qs_canon.specs.Rounds.{Stage, firings}
 use Rattle.qs_clean.specs.declared.links.Link.{Link}
-use Rattle.qs_clean.specs.working.Links.{IsMarked, Reaches, here, onward}
+use Rattle.qs_clean.specs.Marks.{IsMarked}
+use Rattle.qs_clean.specs.working.Links.{Reaches, here, onward}
 use Rattle.qs_clean.specs.Cleaning.{IsDenoted}
 use Rattle.qs_clean.proofs.ArcLists.{reaches_on}
 

@@ -4,7 +4,7 @@ use Rattle.std.specs.Prelude.{if◌then◌else◌}
 use Rattle.std.specs.Cmp.Derive.{both_true}
 use Rattle.std.proofs.lemmas.Bool.{eqb-true, eq-eqb, ne_eqb, and_parts}
 use Rattle.qs_tree.specs.Lists.{◌∈◌, Ascends}
-use Rattle.qs_clean.specs.working.Links.{IsMarked}
+use Rattle.qs_clean.specs.Marks.{IsMarked}
 use Rattle.qs_clean.specs.working.Steps.{each_pair, both, marked, numbering}
 use Rattle.qs_clean.specs.Cleaning.{number_in}
 

@@ -8,7 +8,8 @@ use Rattle.qs_graph.specs.Kept.{IsKept}
 use Rattle.qs_canon.specs.Rounds.{Done}
 use Rattle.qs_canon.specs.Closures.{ClosureOf}
 use Rattle.qs_clean.specs.declared.links.Link.{Link}
-use Rattle.qs_clean.specs.working.Links.{IsMarked, Reaches, turned}
+use Rattle.qs_clean.specs.Marks.{IsMarked}
+use Rattle.qs_clean.specs.working.Links.{Reaches, turned}
 use Rattle.qs_clean.specs.working.Steps.{IsUsed, each_pair, free_link, keeps_mark, both, marked, numbering, if_kept, AreMarks}
 use Rattle.qs_clean.specs.Cleaning.{IsClosureOfValid, Stays, Cleans}
 use Rattle.qs_clean.proofs.Places.{length-both, length-numbering}

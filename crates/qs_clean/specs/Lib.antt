@@ -1,4 +1,5 @@
 pub mod Cleaning
+pub mod Marks
 pub mod Cascades
 pub mod Examples
 pub mod Renaming

@@ -4,13 +4,13 @@ ghost use Rattle.std.specs.Prelude.{◌≡◌, ◌↔◌, ◌⊎◌, ◌<◌, �
 ghost use Rattle.qs_tree.specs.Lists.{◌∈◌};
 ghost use Rattle.qs_graph.specs.Graphs.{Arc};
 ghost use Rattle.qs_canon.specs.Rounds.{Done};
-ghost use Rattle.qs_clean.specs.working.Links.{IsMarked};
+ghost use Rattle.qs_clean.specs.Marks.{IsMarked};
 ghost use Rattle.qs_clean.specs.working.Steps.{IsUsed, each_pair, free_link, keeps_mark, both, marked, numbering};
 ghost use Rattle.qs_clean.specs.working.Steps.{if_kept};
 
 use crate::links::Link;
+use crate::marks::mark_path;
 use qs_canon::Placed;
-use qs_firing::Firing;
 use qs_graph::Edge;
 use std::alloc::{AllocError, Global};
 
@@ -32,17 +32,6 @@ pub fn denoted_arcs(alloc: Global, firings: &[Placed], arcs: usize) -> Result<Ve
         mark_path(&mut marks, &placed.firing);
     }
     Ok(marks)
-}
-
-// Marks the arcs of a firing's path.
-fn mark_path(marks: &mut [bool], firing: &Firing)
-    requires { (k : ℕ) → k ∈ firing.now.path → k < length marks.old }
-    ensures { (k : ℕ) → IsMarked marks.new k ↔ (IsMarked marks.old k ⊎ (k ∈ firing.now.path)) }
-{
-    let path = firing.path.as_slice();
-    for arc in path {
-        marks[*arc as usize] = true;
-    }
 }
 
 // The links of the arcs that are not denoted.

@@ -3,7 +3,8 @@
 ghost use Rattle.std.specs.Prelude.{◌≡◌, ◌↔◌, ◌≤◌, ◌<◌, ◌+◌, ℕ, [], IfOk, OnOk, length, map};
 ghost use Rattle.qs_tree.specs.Lists.{◌∈◌};
 ghost use Rattle.qs_clean.specs.declared.links.Link.{Link};
-ghost use Rattle.qs_clean.specs.working.Links.{IsMarked, Reaches, AreGroups, AreMarked, turned};
+ghost use Rattle.qs_clean.specs.Marks.{IsMarked};
+ghost use Rattle.qs_clean.specs.working.Links.{Reaches, AreGroups, AreMarked, turned};
 
 use std::alloc::{AllocError, Global};
 

@@ -9,7 +9,7 @@ use Rattle.qs_firing.specs.Adding.{from_on}
 use Rattle.qs_canon.specs.Rounds.{Done, Rounds, Stage}
 use Rattle.qs_canon.proofs.Keeping.{Keeps, keeps_rounds}
 use Rattle.qs_clean.specs.Cleaning.{Stays, IsLeft}
-use Rattle.qs_clean.specs.working.Links.{IsMarked}
+use Rattle.qs_clean.specs.Marks.{IsMarked}
 use Rattle.qs_clean.proofs.Places.{places, places_ascend, in_places}
 use Rattle.qs_clean.proofs.ArcLists.{some_within}
 use Rattle.qs_clean.proofs.Closures.{leads_within}

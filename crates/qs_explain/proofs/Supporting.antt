@@ -8,7 +8,7 @@ use Rattle.qs_tree.specs.Lists.{◌∈◌}
 use Rattle.qs_pattern.specs.Rules.{Rule}
 use Rattle.qs_canon.specs.Rounds.{Done, Stage}
 use Rattle.qs_clean.specs.Cleaning.{Stays}
-use Rattle.qs_clean.specs.working.Links.{IsMarked}
+use Rattle.qs_clean.specs.Marks.{IsMarked}
 use Rattle.qs_clean.proofs.Exploring.{set_still, set_marked, set_only, none_of-replicate}
 use Rattle.qs_explain.specs.working.Marks.{IsFrom, HasMarked}
 use Rattle.qs_explain.specs.Support.{next_first, added_first, IsSupportedArc, IsSupportedFiring, it_stays, in_path, beside, added, path_at, added_at}

@@ -2,11 +2,11 @@
 
 ghost use Rattle.std.specs.Prelude.{◌≡◌, ◌≤◌, ◌<◌, ◌^◌, ◌↔◌, ◌⊎◌, ℕ, IfOk, IsTrue, IsFalse, length};
 ghost use Rattle.qs_tree.specs.Lists.{◌∈◌, Ascends};
-ghost use Rattle.qs_clean.specs.working.Links.{IsMarked};
+ghost use Rattle.qs_clean.specs.Marks.{IsMarked};
 ghost use Rattle.qs_explain.specs.working.Marks.{IsFrom, HasMarked};
 
 use qs_canon::Placed;
-use qs_firing::Firing;
+use qs_clean::mark_path;
 use std::alloc::{AllocError, Global};
 
 /// The marked places, ascending.
@@ -44,17 +44,6 @@ fn mark_range(marks: &mut [bool], from: u32, to: u32)
 {
     for arc in from..to {
         marks[arc as usize] = true;
-    }
-}
-
-// Marks the arcs of a firing's path.
-fn mark_path(marks: &mut [bool], firing: &Firing)
-    requires { (k : ℕ) → k ∈ firing.now.path → k < length marks.old }
-    ensures { (k : ℕ) → IsMarked marks.new k ↔ (IsMarked marks.old k ⊎ (k ∈ firing.now.path)) }
-{
-    let path = firing.path.as_slice();
-    for arc in path {
-        marks[*arc as usize] = true;
     }
 }
 

@@ -2,7 +2,7 @@
 
 ghost use Rattle.std.specs.Prelude.{◌≡◌, ◌≤◌, ◌^◌, ◌↔◌, ℕ, IfOk, length};
 ghost use Rattle.qs_clean.specs.Cleaning.{IsClosureOfValid, Stays};
-ghost use Rattle.qs_clean.specs.working.Links.{IsMarked};
+ghost use Rattle.qs_clean.specs.Marks.{IsMarked};
 ghost use Rattle.qs_explain.specs.Support.{IsSupport, IsSupportedArc, IsSupportedFiring};
 
 use crate::marks::{mark_firing, places};

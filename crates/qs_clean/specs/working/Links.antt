@@ -1,11 +1,8 @@
 -- Links between nodes, and the nodes to which they lead.
 use Rattle.std.specs.Prelude.{ℕ, ◌≡◌, ◌+◌, ◌⊎◌, Bool, true, false, List, [], ◌∷◌, length, slice_index_or}
 use Rattle.qs_tree.specs.Lists.{◌∈◌}
+use Rattle.qs_clean.specs.Marks.{IsMarked}
 use Rattle.qs_clean.specs.declared.links.Link.{Link}
-
--- n is marked in a list that has a mark, or none, for each number from 0.
-abbrev pub IsMarked : List Bool → ℕ → Type 0
-IsMarked marks n = slice_index_or marks n false ≡ true
 
 -- Links lead from a to b: none where a is b, or some, each from where the one before it ends.
 pub data Reaches (links : List Link) : ℕ → ℕ → Type 0 where

@@ -5,7 +5,8 @@ use Rattle.qs_tree.specs.Lists.{◌∈◌}
 use Rattle.qs_graph.specs.Graphs.{Arc}
 use Rattle.qs_canon.specs.Rounds.{Stage, Done}
 use Rattle.qs_clean.specs.declared.links.Link.{Link}
-use Rattle.qs_clean.specs.working.Links.{IsMarked, Reaches, turned}
+use Rattle.qs_clean.specs.Marks.{IsMarked}
+use Rattle.qs_clean.specs.working.Links.{Reaches, turned}
 use Rattle.qs_clean.specs.Cleaning.{IsDenoted}
 
 -- The path of one of these firings uses the arc of this number.

@@ -1,6 +1,6 @@
 -- Marks of arcs.
 use Rattle.std.specs.Prelude.{ℕ, ◌≤◌, ◌<◌, Bool, List}
-use Rattle.qs_clean.specs.working.Links.{IsMarked}
+use Rattle.qs_clean.specs.Marks.{IsMarked}
 
 -- k is one of the numbers from a on, up to b and without it.
 abbrev pub IsFrom : ℕ → ℕ → ℕ → Type 0

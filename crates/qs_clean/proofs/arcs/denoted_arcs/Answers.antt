@@ -3,7 +3,7 @@ use Rattle.std.proofs.lemmas.List.{length-replicate}
 use Rattle.qs_tree.specs.Lists.{◌∈◌}
 use Rattle.qs_firing.specs.Firings.{Firing}
 use Rattle.qs_canon.specs.Rounds.{Done}
-use Rattle.qs_clean.specs.working.Links.{IsMarked}
+use Rattle.qs_clean.specs.Marks.{IsMarked}
 use Rattle.qs_tree.proofs.Members.{in_read}
 use Rattle.qs_clean.proofs.LinkSteps.{written_back}
 use Rattle.qs_clean.proofs.ArcSteps.{firing_more, none_used}

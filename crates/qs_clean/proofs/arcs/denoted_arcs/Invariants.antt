@@ -1,5 +1,5 @@
 use Rattle.std.proofs.Common.{ℕ, ◌↔◌, ◌≡◌, length, take}
-use Rattle.qs_clean.specs.working.Links.{IsMarked}
+use Rattle.qs_clean.specs.Marks.{IsMarked}
 use Rattle.qs_clean.specs.working.Steps.{IsUsed}
 use Rattle.qs_clean.proofs.arcs.denoted_arcs.Given as goal
 

@@ -4,7 +4,7 @@ use Rattle.qs_canon.specs.Closures.{ClosureOf}
 use Rattle.qs_canon.specs.contracts.closure.Closure as closure
 use Rattle.qs_clean.specs.working.Steps.{each_pair, keeps_mark, AreMarks}
 use Rattle.qs_clean.specs.Cleaning.{IsClosureOfValid, Stays}
-use Rattle.qs_clean.specs.working.Links.{IsMarked}
+use Rattle.qs_clean.specs.Marks.{IsMarked}
 use Rattle.qs_clean.proofs.Whole.{from_in, to_in, kept_len, kept_stay}
 use Rattle.std.specs.Prelude.{ℕ, ◌↔◌}
 use Rattle.qs_clean.proofs.cleaning.kept.Goals as goal

@@ -1,6 +1,6 @@
 use Rattle.std.proofs.Common.{◌<◌, ◌↔◌, ℕ, sym, subst, arith}
 use Rattle.qs_tree.specs.Lists.{◌∈◌, Ascends}
-use Rattle.qs_clean.specs.working.Links.{IsMarked}
+use Rattle.qs_clean.specs.Marks.{IsMarked}
 use Rattle.qs_clean.proofs.Places.{places, places_ascend, in_places}
 use Rattle.qs_explain.proofs.Marking.{places_all}
 use Rattle.qs_explain.proofs.marks.places.Goals as goal

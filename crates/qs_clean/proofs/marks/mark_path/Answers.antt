@@ -1,10 +1,10 @@
 use Rattle.std.proofs.Common.{◌≡◌, ℕ, ◌<◌, ◌↔◌, ◌⊎◌, get_or, length, set, true, ◌∙◌, ap, subst, refl, arith}
 use Rattle.qs_tree.specs.Lists.{◌∈◌}
 use Rattle.qs_firing.specs.Firings.{Firing}
-use Rattle.qs_clean.specs.working.Links.{IsMarked}
+use Rattle.qs_clean.specs.Marks.{IsMarked}
 use Rattle.qs_tree.proofs.Members.{in_get_or}
 use Rattle.qs_clean.proofs.ArcSteps.{path_more, path_all}
-use Rattle.qs_explain.proofs.marks.mark_path.Goals as goal
+use Rattle.qs_clean.proofs.marks.mark_path.Goals as goal
 
 pub bounds-marks-arc : goal.bounds-marks-arc
 bounds-marks-arc c =
