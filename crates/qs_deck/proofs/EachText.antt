@@ -12,8 +12,8 @@ use Rattle.qs_lex.specs.declared.refusal.Cause.TheVariants.{NotUtf8, TooDeep, Sy
 use Rattle.qs_lex.specs.declared.refusal.Refusal.{Refusal}
 use Rattle.qs_lex.proofs.Refusing.{some_refusal}
 use Rattle.qs_lex.specs.Tokens.{version_of, AreTokensOf, IsTokenOf}
-use Rattle.qs_lex.specs.Grammar.{part, IsWhole}
-use Rattle.qs_lex.specs.working.Expecting.{Stops}
+use Rattle.qs_lex.specs.Grammar.{Form, part, IsWhole}
+use Rattle.qs_lex.specs.working.Expecting.{Stops, IsPredictive}
 use Rattle.qs_lex.proofs.Totality.{a_reading}
 use Rattle.qs_lex.proofs.Deciding.{Below, whole_or_stops}
 use Rattle.qs_lex.proofs.OpenParentheses.{first_too_deep}
@@ -95,13 +95,13 @@ falls (of_graphs graphs.graph) = (tt, λ e. not_empty e)
 falls (of_graphs graphs.chain) = (tt, λ e. not_empty e)
 falls (of_graphs graphs.plain) = (tt, λ e. not_empty e)
 
-decided_behind : (ts : List Token) → IsWhole line (part deck) ts [] ⊎ ((at : ℕ) × StopsBehind (part deck) ts at)
-decided_behind ts = ⊎_elim (λ w. inl w) (λ s. inr (length ts - s.0, stopped s.0 s.1)) (whole_or_stops table more ok rank 7 low falls (part deck) tt ts)
+pub decided_behind : (form : Form Part) → IsPredictive table more form → (ts : List Token) → IsWhole line form ts [] ⊎ ((at : ℕ) × StopsBehind form ts at)
+decided_behind form good ts = ⊎_elim (λ w. inl w) (λ s. inr (length ts - s.0, stopped s.0 s.1)) (whole_or_stops table more ok rank 7 low falls form good ts)
   where
-    stopped : (left : ℕ) → Stops line (part deck ∷ []) ts left → StopsBehind (part deck) ts (length ts - left)
+    stopped : (left : ℕ) → Stops line (form ∷ []) ts left → StopsBehind form ts (length ts - left)
     stopped left s =
         let back : left ≡ length ts - (length ts - left) = omega (arith, s.left_is, ap length s.are ∙ length-append s.passed s.rest) in
-        cannot_go_on (part deck) ts (length ts - left) (omega arith) (subst (λ n. Stops line (part deck ∷ []) ts n) back s)
+        cannot_go_on form ts (length ts - left) (omega arith) (subst (λ n. Stops line (form ∷ []) ts n) back s)
 
 -- ---- checks
 
@@ -127,20 +127,20 @@ rules_decided (raw ∷ raws) can =
     (λ c. inr (c.0, c.1, record { front = []; raw = raw; behind = raws; are = refl; accepted = All-nil (λ r. IsAcceptable r.rule); ends = c.2 }))
     (rule_accepted_or_refused raw (All-head CanBeChecked raw raws can))
 
-system_at : (systems : List WrittenSystem) (k : ℕ) → k < length systems → (s : WrittenSystem) × (slice_get systems k ≡ Some s)
-system_at [] k l = absurd (omega arith)
-system_at (s ∷ systems) zero l = (s, refl)
-system_at (s ∷ systems) (suc k) l = system_at systems k (omega arith)
+pub member_at : {X : Type 0} (xs : List X) (k : ℕ) → k < length xs → (x : X) × (slice_get xs k ≡ Some x)
+member_at [] k l = absurd (omega arith)
+member_at (x ∷ xs) zero l = (x, refl)
+member_at (x ∷ xs) (suc k) l = member_at xs k (omega arith)
 
-checks_decided : (d : WrittenDeck) → All CanBeChecked (rules_of d.systems) → IsChecked d.systems ⊎ ((at : ℕ) × (cause : Cause) × IsCheckFault d.systems at cause)
-checks_decided d can =
+pub checks_decided : (systems : List WrittenSystem) → All CanBeChecked (rules_of systems) → IsChecked systems ⊎ ((at : ℕ) × (cause : Cause) × IsCheckFault systems at cause)
+checks_decided systems can =
     ⊎_elim
-    (λ many. let s = system_at d.systems 256 many in inr (s.0.at, TooManySystems, too_many_systems s.0 s.1))
+    (λ many. let s = member_at systems 256 many in inr (s.0.at, TooManySystems, too_many_systems s.0 s.1))
     (λ few. ⊎_elim
     (λ good. inl (record { few = few; accepted = good }))
     (λ f. inr (f.1, f.0, rule_not_accepted f.2.front f.2.behind f.2.raw few f.2.are f.2.accepted f.2.ends))
-    (rules_decided (rules_of d.systems) can))
-    (cases_lt 256 (length d.systems))
+    (rules_decided (rules_of systems) can))
+    (cases_lt 256 (length systems))
 
 -- ---- graphs
 
@@ -158,7 +158,7 @@ abbrev IsDecided : List ℕ → Type 0
 IsDecided text = ((version : ℕ) × (names : List (List ℕ)) × (grammars : List Grammar) × (graph : QGraph) × IsDeckOf text version names grammars graph) ⊎ ((at : ℕ) × (cause : Cause) × IsFault text at cause)
 
 of_written : (text : List ℕ) (version : ℕ) (names : List (List ℕ)) (d : WrittenDeck) → IsWritten text version names d → IsDecided text
-of_written text version names d w = ⊎_elim checked (λ f. inr (f.0, f.1, check version names d w f.2)) (checks_decided d (meaning.can text version names d w))
+of_written text version names d w = ⊎_elim checked (λ f. inr (f.0, f.1, check version names d w f.2)) (checks_decided d.systems (meaning.can text version names d w))
   where
     checked : IsChecked d.systems → IsDecided text
     checked good =
@@ -188,7 +188,7 @@ of_shallow text ts has =
     of_written text (version_of text) d.names d.written
     (record { version_is = refl; tokens = ts; has_tokens = has; front = w.front; body = w.body; are = w.are; in_front = w.in_front; reads = d.reads; names_are = d.names_are }))
     (λ s. inr (byte_of text ts s.0, Syntax, syntax ts s.0 has s.1))
-    (syntax_decided_by (part deck) text decided_behind ts)
+    (syntax_decided_by (part deck) text (decided_behind (part deck) tt) ts)
 
 of_tokens : (text : List ℕ) (ts : List Token) → IsUtf8 text → AreTokensOf text ts → IsDecided text
 of_tokens text ts utf8 are =

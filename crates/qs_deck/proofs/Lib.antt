@@ -27,5 +27,16 @@ pub mod DecksAccepted
 -- That there is one.
 pub mod WholeRead
 pub mod EachText
+pub mod EachList
+-- Phrase texts.
+pub mod Cutting
+pub mod NamedWords
+pub mod LinesRead
+pub mod PartedWords
+pub mod BorderLines
+pub mod StillNamed
+pub mod PhraseMeanings
+pub mod OnePhraseText
+pub mod EachPhraseText
 -- Made decks.
 pub mod MadeLemmas

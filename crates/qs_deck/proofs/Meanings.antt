@@ -45,7 +45,9 @@ use Rattle.qs_deck.specs.Refusals.{too_many_arcs, cycle, entries, exits, tokens,
 use Rattle.qs_deck.specs.declared.deck.DeckEnd.{DeckEnd}
 use Rattle.qs_deck.specs.declared.deck.DeckEnd.TheVariants as deck_end
 use Rattle.qs_deck.specs.Answers.{end_of_tokens}
-use Rattle.qs_deck.specs.working.Answers.{end_of_check, end_of_chains, IsEndOf, IsEndOfGrammars}
+use Rattle.qs_deck.specs.working.Answers.{end_of_check, end_of_chains, IsEndOf, IsEndOfGrammars, IsEndOfList}
+use Rattle.qs_deck.specs.declared.fault.FaultEnd.{FaultEnd}
+use Rattle.qs_deck.specs.declared.fault.FaultEnd.TheVariants.{Fault, Memory}
 use Rattle.qs_deck.specs.working.Checked.{IsFirstFault}
 use Rattle.qs_deck.proofs.CheckSteps.{HasFewRules}
 use Rattle.qs_deck.proofs.Borders.{spans, byte_border, few_tokens}
@@ -73,8 +75,13 @@ tokens_end text utf8 (lex_end.Refused r) is = refused (tokens utf8 is.fault) is.
 tokens_end text utf8 lex_end.Memory is = tt
 
 pub tokens_end_of_list : (text : List ℕ) → IsUtf8 text → (end : LexEnd) → lexing.EndsFor text end → EndsForGrammars text (end_of_tokens end)
-tokens_end_of_list text utf8 (lex_end.Refused r) is = refused (lists.tokens utf8 is.fault) is.tells
+tokens_end_of_list text utf8 (lex_end.Refused r) is = refused (lists.unwritten utf8 (lists.tokens is.fault)) is.tells
 tokens_end_of_list text utf8 lex_end.Memory is = tt
+
+-- a text that is no written list of grammars means none
+pub list_end : (text : List ℕ) → IsUtf8 text → (end : FaultEnd) → IsEndOfList text end → IsEndOfGrammars text end
+list_end text utf8 (Fault byte cause) is = (lists.unwritten utf8 is.0, is.1)
+list_end text utf8 Memory is = tt
 
 -- what holds of each of a list holds of a member
 pub all_member : {X : Type 0} (P : X → Type 0) (xs : List X) (x : X) → All P xs → x ∈ xs → P x

@@ -16,18 +16,18 @@ use Rattle.qs_deck.specs.Syntax.{StopsText}
 use Rattle.qs_deck.specs.Checks.{IsCheckFault}
 use Rattle.qs_deck.specs.Decks.{Grammar, meaning_of, HasTokens}
 use Rattle.qs_deck.specs.Refusals.{byte_of, IsFirstTooDeep}
-use Rattle.qs_deck.specs.GrammarLists.{AreWritten, AreGrammarsOf, IsGrammarsFault, bytes, tokens, nesting, syntax, check}
+use Rattle.qs_deck.specs.GrammarLists.{AreWritten, AreGrammarsOf, IsListFault, tokens, nesting, syntax, IsGrammarsFault, bytes, unwritten, check}
 use Rattle.qs_deck.proofs.OneDeck.{one_list}
 use Rattle.qs_deck.proofs.WholeDecks.{written_list_whole}
 use Rattle.qs_deck.proofs.OneFault.{one_too_deep, one_stop, never_whole, one_check, not_checked, one_line, none_twice, same_tokens, deep_nowhere}
 
 -- a text is one written list at most
-record AreOneWritten (v w : ℕ) (names others : List (List ℕ)) (systems more : List WrittenSystem) : Type 0 where
-  versions_are : v ≡ w
-  names_are : names ≡ others
-  same : systems ≡ more
+pub record AreOneWritten (v w : ℕ) (names others : List (List ℕ)) (systems more : List WrittenSystem) : Type 0 where
+  pub versions_are : v ≡ w
+  pub names_are : names ≡ others
+  pub same : systems ≡ more
 
-one_written : {text : List ℕ} {v w : ℕ} {names others : List (List ℕ)} {systems more : List WrittenSystem} → AreWritten text v names systems → AreWritten text w others more → AreOneWritten v w names others systems more
+pub one_written : {text : List ℕ} {v w : ℕ} {names others : List (List ℕ)} {systems more : List WrittenSystem} → AreWritten text v names systems → AreWritten text w others more → AreOneWritten v w names others systems more
 one_written {text} {v} {w} {names} {others} {systems} {more} a b =
     let ts : a.tokens ≡ b.tokens = readings.one_list text a.tokens b.tokens a.has_tokens.are_tokens b.has_tokens.are_tokens in
     let versions : v ≡ w = a.version_is ∙ sym b.version_is in
@@ -46,45 +46,49 @@ goes_through {text} {ts = ts} {i = i} has stops w =
     never_whole parts.grammars text ts i stops (subst (IsWholeText parts.grammars text) (same_tokens w.has_tokens has) (written_list_whole w))
 
 -- each phase finds a fault only where those in front of it find none
-one_fault : {text : List ℕ} {p q : ℕ} {c d : Cause} → IsGrammarsFault text p c → IsGrammarsFault text q d → (p ≡ q) × (c ≡ d)
-one_fault (bytes not) (bytes never) = (refl, refl)
-one_fault (bytes not) (tokens utf8 f) = absurd (not utf8)
-one_fault (bytes not) (nesting us j utf8 are g) = absurd (not utf8)
-one_fault (bytes not) (syntax us j has g) = absurd (not has.utf8)
-one_fault (bytes not) (check version others e w g) = absurd (not w.has_tokens.utf8)
-one_fault (tokens utf8 f) (bytes never) = absurd (never utf8)
-one_fault (tokens utf8 f) (tokens too g) = readings.one_fault f g
-one_fault {text} (tokens utf8 f) (nesting us j too are g) = absurd (readings.not_both text us are f)
-one_fault {text} (tokens utf8 f) (syntax us j has g) = absurd (readings.not_both text us has.are_tokens f)
-one_fault {text} (tokens utf8 f) (check version others e w g) = absurd (readings.not_both text w.tokens w.has_tokens.are_tokens f)
-one_fault (nesting ts i utf8 are f) (bytes never) = absurd (never utf8)
-one_fault {text} (nesting ts i utf8 are f) (tokens too g) = absurd (readings.not_both text ts are g)
-one_fault {text} (nesting ts i utf8 are f) (nesting us j too also g) =
+pub one_list_fault : {text : List ℕ} {p q : ℕ} {c d : Cause} → IsListFault text p c → IsListFault text q d → (p ≡ q) × (c ≡ d)
+one_list_fault (tokens f) (tokens g) = readings.one_fault f g
+one_list_fault {text} (tokens f) (nesting us j are g) = absurd (readings.not_both text us are f)
+one_list_fault {text} (tokens f) (syntax us j has g) = absurd (readings.not_both text us has.are_tokens f)
+one_list_fault {text} (nesting ts i are f) (tokens g) = absurd (readings.not_both text ts are g)
+one_list_fault {text} (nesting ts i are f) (nesting us j also g) =
     let same = readings.one_list text ts us are also in
     let index = one_too_deep us i j (subst (λ vs. IsFirstTooDeep vs i) same f) g in
     (λ k. byte_of text (same k) (index k), refl)
-one_fault (nesting ts i utf8 are f) (syntax us j has g) = absurd (deep_nowhere are f has)
-one_fault (nesting ts i utf8 are f) (check version others e w g) = absurd (deep_nowhere are f w.has_tokens)
-one_fault (syntax ts i has f) (bytes never) = absurd (never has.utf8)
-one_fault {text} (syntax ts i has f) (tokens too g) = absurd (readings.not_both text ts has.are_tokens g)
-one_fault (syntax ts i has f) (nesting us j too are g) = absurd (deep_nowhere are g has)
-one_fault {text} (syntax ts i has f) (syntax us j also g) =
+one_list_fault (nesting ts i are f) (syntax us j has g) = absurd (deep_nowhere are f has)
+one_list_fault {text} (syntax ts i has f) (tokens g) = absurd (readings.not_both text ts has.are_tokens g)
+one_list_fault (syntax ts i has f) (nesting us j are g) = absurd (deep_nowhere are g has)
+one_list_fault {text} (syntax ts i has f) (syntax us j also g) =
     let same = same_tokens has also in
     let index = one_stop parts.grammars text us i j (subst (λ vs. StopsText parts.grammars text vs i) same f) g in
     (λ k. byte_of text (same k) (index k), refl)
-one_fault (syntax ts i has f) (check version others e w g) = absurd (goes_through has f w)
+
+pub written_without_fault : {text : List ℕ} {version : ℕ} {names : List (List ℕ)} {systems : List WrittenSystem} {p : ℕ} {c : Cause} → AreWritten text version names systems → IsListFault text p c → ⊥
+written_without_fault {text} w (tokens f) = readings.not_both text w.tokens w.has_tokens.are_tokens f
+written_without_fault w (nesting ts i are f) = deep_nowhere are f w.has_tokens
+written_without_fault w (syntax ts i has f) = goes_through has f w
+
+pub one_check_fault : {text : List ℕ} {v w : ℕ} {names others : List (List ℕ)} {systems more : List WrittenSystem} {p q : ℕ} {c d : Cause} → AreWritten text v names systems → AreWritten text w others more → IsCheckFault systems p c → IsCheckFault more q d → (p ≡ q) × (c ≡ d)
+one_check_fault {systems = systems} a b f g = one_check systems f (moved (one_written a b).same g)
+
+pub grammars_without_check : {text : List ℕ} {v w : ℕ} {names others : List (List ℕ)} {grammars : List Grammar} {systems : List WrittenSystem} {p : ℕ} {c : Cause} → AreGrammarsOf text v names grammars → AreWritten text w others systems → IsCheckFault systems p c → ⊥
+grammars_without_check of w f = not_checked of.written of.checked (moved (one_written of.are_written w).same f)
+
+one_fault : {text : List ℕ} {p q : ℕ} {c d : Cause} → IsGrammarsFault text p c → IsGrammarsFault text q d → (p ≡ q) × (c ≡ d)
+one_fault (bytes not) (bytes never) = (refl, refl)
+one_fault (bytes not) (unwritten utf8 g) = absurd (not utf8)
+one_fault (bytes not) (check version others e w g) = absurd (not w.has_tokens.utf8)
+one_fault (unwritten utf8 f) (bytes never) = absurd (never utf8)
+one_fault (unwritten utf8 f) (unwritten too g) = one_list_fault f g
+one_fault (unwritten utf8 f) (check version others e w g) = absurd (written_without_fault w f)
 one_fault (check version names d v f) (bytes never) = absurd (never v.has_tokens.utf8)
-one_fault {text} (check version names d v f) (tokens too g) = absurd (readings.not_both text v.tokens v.has_tokens.are_tokens g)
-one_fault (check version names d v f) (nesting us j too are g) = absurd (deep_nowhere are g v.has_tokens)
-one_fault (check version names d v f) (syntax us j has g) = absurd (goes_through has g v)
-one_fault (check version names d v f) (check other others e w g) = one_check d f (moved (one_written v w).same g)
+one_fault (check version names d v f) (unwritten utf8 g) = absurd (written_without_fault v g)
+one_fault (check version names d v f) (check other others e w g) = one_check_fault v w f g
 
 no_fault : {text : List ℕ} {version : ℕ} {names : List (List ℕ)} {grammars : List Grammar} {p : ℕ} {c : Cause} → AreGrammarsOf text version names grammars → IsGrammarsFault text p c → ⊥
 no_fault of (bytes never) = never of.are_written.has_tokens.utf8
-no_fault {text} of (tokens utf8 f) = readings.not_both text of.are_written.tokens of.are_written.has_tokens.are_tokens f
-no_fault of (nesting ts i utf8 are f) = deep_nowhere are f of.are_written.has_tokens
-no_fault of (syntax ts i has f) = goes_through has f of.are_written
-no_fault of (check version others e w f) = not_checked of.written of.checked (moved (one_written of.are_written w).same f)
+no_fault of (unwritten utf8 f) = written_without_fault of.are_written f
+no_fault of (check version others e w f) = grammars_without_check of w f
 
 -- ---- the answers
 

@@ -1,5 +1,5 @@
--- What is whole by the grammar is read as a deck, in names that grow by its tokens.
-use Rattle.std.proofs.Common.{◌≡◌, ◌⊎◌, ℕ, Bool, true, false, inl, inr, refl, subst, List, [], ◌∷◌, arith}
+-- What is whole by the grammar is read as a deck, or as a list of grammars, in names that grow by its tokens.
+use Rattle.std.proofs.Common.{◌≡◌, ◌⊎◌, ℕ, ◌≤◌, length, Bool, true, false, inl, inr, refl, subst, List, [], ◌∷◌, arith}
 use Rattle.std.specs.List.{All}
 use Rattle.qs_lex.specs.declared.token.Token.{Token}
 use Rattle.qs_lex.specs.declared.token.Word.TheVariants.{Systeme, Unique}
@@ -18,7 +18,7 @@ use Rattle.qs_graphtext.specs.Grammar as graphs
 use Rattle.qs_graphtext.specs.Reading.{ReadsGraph}
 use Rattle.qs_graphtext.proofs.WholeRead.{graph_read}
 use Rattle.qs_deck.specs.WrittenDecks.{WrittenSystem, WrittenDeck}
-use Rattle.qs_deck.specs.Grammar.{Part, deck, system, of_rules, of_graphs, line}
+use Rattle.qs_deck.specs.Grammar.{Part, deck, system, of_rules, of_graphs, grammars, line}
 use Rattle.qs_deck.specs.Reading.{ReadsMark, no_mark, a_mark, ReadsSystem, reads_system, ReadsSystems, ReadsDeck}
 use Rattle.qs_deck.proofs.Tables.{rules_are, graphs_are}
 use Rattle.qs_deck.proofs.Places.{first_of}
@@ -87,6 +87,12 @@ module _ (names : List (List ℕ)) (text : List ℕ) where
   lines (of_graphs graphs.chain) ts rest all w m = tt
   lines (of_graphs graphs.plain) ts rest all w m = tt
 
+  pub list_read : {ts rest : List Token} → All (IsKnown names text) ts → IsWhole line grammars ts rest → (systems : List WrittenSystem) × (1 ≤ length systems) × ReadsSystems names text ts systems rest
+  list_read {ts} {rest} all w =
+      let m : Means (IsKnown names text) Meant grammars ts rest = whole_means line (IsKnown names text) Meant lines all w in
+      let more = systems_of m.2 in
+      (m.1.0 ∷ more.0, omega arith, (m.0, m.1.1, more.1))
+
   pub deck_read : {ts rest : List Token} → All (IsKnown names text) ts → IsWhole line (part deck) ts rest → (d : WrittenDeck) × ReadsDeck names text ts d rest
   deck_read all w = whole_means line (IsKnown names text) Meant lines all w
 
@@ -102,3 +108,17 @@ whole_is_read text ts all w =
     let n = names_grow text ts [] all in
     let d = deck_read n.0 text (all_known text ts [] n.0 all n.1) w in
     record { names = n.0; written = d.0; reads = d.1; names_are = n.1 }
+
+-- and such tokens that are a list of grammars are read as one
+pub record IsReadList (text : List ℕ) (ts : List Token) : Type 0 where
+  pub names : List (List ℕ)
+  pub written : List WrittenSystem
+  pub some : 1 ≤ length written
+  pub reads : ReadsSystems names text ts written []
+  pub names_are : NamesGrow text ts [] names
+
+pub whole_list_is_read : (text : List ℕ) (ts : List Token) → All (IsTokenOf text) ts → IsWhole line grammars ts [] → IsReadList text ts
+whole_list_is_read text ts all w =
+    let n = names_grow text ts [] all in
+    let d = list_read n.0 text (all_known text ts [] n.0 all n.1) w in
+    record { names = n.0; written = d.0; some = d.1; reads = d.2; names_are = n.1 }

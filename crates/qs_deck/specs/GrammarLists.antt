@@ -44,15 +44,20 @@ pub record AreGrammarsOf (text : List ℕ) (version : ℕ) (names : List (List �
   pub checked : IsChecked written
   pub grammars_are : grammars ≡ map meaning_of written
 
+-- The first fault of a text in UTF-8 that is no written list of grammars: its first faulty place, a parenthesis that is
+-- one too many, or the first token with which it begins none.
+pub data IsListFault (text : List ℕ) : ℕ → Cause → Type 0 where
+  tokens : {at : ℕ} {cause : Cause} → IsFirstFault text at cause → IsListFault text at cause
+  nesting : (ts : List Token) (index : ℕ) → AreTokensOf text ts → IsFirstTooDeep ts index
+      → IsListFault text (byte_of text ts index) TooDeep
+  syntax : (ts : List Token) (index : ℕ) → HasTokens text ts → StopsText parts.grammars text ts index
+      → IsListFault text (byte_of text ts index) Syntax
+
 -- The first fault of a text that means no list of grammars: as of a deck, but that a list of grammars should stand
 -- there, so that the graph has no part in it.
 pub data IsGrammarsFault (text : List ℕ) : ℕ → Cause → Type 0 where
   bytes : (IsUtf8 text → ⊥) → IsGrammarsFault text (utf8_valid_len text) NotUtf8
-  tokens : {at : ℕ} {cause : Cause} → IsUtf8 text → IsFirstFault text at cause → IsGrammarsFault text at cause
-  nesting : (ts : List Token) (index : ℕ) → IsUtf8 text → AreTokensOf text ts → IsFirstTooDeep ts index
-      → IsGrammarsFault text (byte_of text ts index) TooDeep
-  syntax : (ts : List Token) (index : ℕ) → HasTokens text ts → StopsText parts.grammars text ts index
-      → IsGrammarsFault text (byte_of text ts index) Syntax
+  unwritten : {at : ℕ} {cause : Cause} → IsUtf8 text → IsListFault text at cause → IsGrammarsFault text at cause
   check : (version : ℕ) (names : List (List ℕ)) (systems : List WrittenSystem) {at : ℕ} {cause : Cause}
       → AreWritten text version names systems → IsCheckFault systems at cause → IsGrammarsFault text at cause
 

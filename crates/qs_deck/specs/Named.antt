@@ -1,6 +1,7 @@
 -- Labels that are among the first n, which are those that n names name.
 use Rattle.std.specs.Prelude.{ℕ, ◌<◌, List}
 use Rattle.qs_tree.specs.Lists.{◌∈◌}
+use Rattle.qs_tree.specs.declared.cell.Label.{Label}
 use Rattle.qs_pattern.specs.Rules.{Rule}
 use Rattle.qs_pattern.specs.Named.{ArePatternsNamed, IsNamedIfGiven}
 use Rattle.qs_deck.specs.declared.system.System.{System}
@@ -18,3 +19,7 @@ pub record IsSystemNamed (n : ℕ) (system : System) : Type 0 where
 
 abbrev pub AreSystemsNamed : ℕ → List System → Type 0
 AreSystemsNamed n systems = (system : System) → system ∈ systems → IsSystemNamed n system
+
+-- Each label in these lines is one of the first n.
+abbrev pub AreLinesNamed : ℕ → List (List Label) → Type 0
+AreLinesNamed n lines = (line : List Label) → line ∈ lines → (label : Label) → label ∈ line → label.0 < n

@@ -8,3 +8,4 @@ pub mod Checked
 pub mod Answers
 pub mod Codes
 pub mod MadeParts
+pub mod Phrases

@@ -9,8 +9,10 @@ ghost use Rattle.qs_graph.specs.Graphs.{QGraph};
 ghost use Rattle.qs_lex.specs.declared.refusal.Refusal.{Refusal};
 ghost use Rattle.qs_deck.specs.Decks.{Grammar, grammar_of, IsDeckOf, IsWritten};
 ghost use Rattle.qs_deck.specs.Refusals.{byte_of, IsRefusalOf, EndsFor};
-ghost use Rattle.qs_deck.specs.working.Answers.{IsEndOf, IsEndOfGrammars, IsBetween, end_of_chains};
+ghost use Rattle.qs_deck.specs.working.Answers.{IsEndOf, IsEndOfGrammars, IsEndOfList, IsEndOfPhrases, IsBetween};
+ghost use Rattle.qs_deck.specs.working.Answers.{end_of_chains};
 ghost use Rattle.qs_deck.specs.GrammarLists.{EndsForGrammars};
+ghost use Rattle.qs_deck.specs.PhraseTexts.{EndsForPhrases};
 ghost use Rattle.qs_deck.specs.Texts.{deck_text};
 
 use crate::checking::checked;
@@ -57,7 +59,7 @@ pub fn shallow(text: &str, tokens: &[Token]) -> Result<(), FaultEnd>
     requires utf8 { IsUtf8 text.now }
     ensures shallow { IfOk result (λ _. (index : ℕ) → IsTooDeep tokens.now index → ⊥) }
     ensures end { IfErr result (IsEndOf text.now) }
-    ensures end_of_grammars { IfErr result (IsEndOfGrammars text.now) }
+    ensures end_of_list { IfErr result (IsEndOfList text.now) }
 {
     match too_deep(tokens) {
         Some(index) => Err(FaultEnd::Fault {
@@ -132,12 +134,13 @@ fn deck_of_tokens(alloc: Global, text: &str, tokens: &[Token]) -> Result<Deck, F
     }
 }
 
-/// What is told of a text that means no deck, or no list of grammars.
+/// What is told of a text that means no deck, no list of grammars, or no phrase text.
 pub fn told(text: &str, end: FaultEnd) -> DeckEnd
     requires between { IsBetween text.now end }
     requires short { length text.now ≤ 4194304 }
     ensures deck { IsEndOf text.now end → EndsFor text.now result }
     ensures grammars { IsEndOfGrammars text.now end → EndsForGrammars text.now result }
+    ensures phrases { IsEndOfPhrases text.now end → EndsForPhrases text.now result }
 {
     match end {
         FaultEnd::Fault { byte, cause } => DeckEnd::Refused(Refusal::at(text, byte, cause)),

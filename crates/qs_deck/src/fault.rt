@@ -2,6 +2,7 @@
 
 use qs_check::CheckEnd;
 use qs_lex::Cause;
+use std::alloc::AllocError;
 
 /// Why a text with tokens means no deck.
 #[derive(Clone, Copy, Debug, PartialEq, Eq)]
@@ -23,5 +24,16 @@ impl From<CheckEnd> for FaultEnd {
             CheckEnd::Refused { cause, at } => FaultEnd::Fault { byte: at, cause },
             CheckEnd::Memory => FaultEnd::Memory,
         }
+    }
+}
+
+impl From<AllocError> for FaultEnd {
+    ghost use Rattle.std.specs.Prelude.{◌≡◌};
+    ghost use Rattle.qs_deck.specs.declared.fault.FaultEnd.TheVariants.{Memory};
+
+    ghost from_gives = { λ _ e. e ≡ Memory };
+
+    fn from(_: AllocError) -> FaultEnd {
+        FaultEnd::Memory
     }
 }

@@ -3,13 +3,12 @@
 ghost use Rattle.std.specs.Prelude.{◌≡◌, ◌≤◌, ℕ, List, IfOk, IfErr, IsErr, length, map};
 ghost use Rattle.std.specs.Str.{IsUtf8};
 ghost use Rattle.qs_lex.specs.Tokens.{AreTokensOf, AreSpansFrom};
-ghost use Rattle.qs_lex.specs.Nesting.{IsTooDeep};
 ghost use Rattle.qs_deck.specs.Decks.{Grammar, grammar_of};
 ghost use Rattle.qs_deck.specs.Named.{AreSystemsNamed};
 ghost use Rattle.qs_deck.specs.GrammarLists.{AreWritten, AreGrammarsOf, IsGrammarsFault, EndsForGrammars};
 ghost use Rattle.qs_lex.specs.Refusals.{IsRefusedFor};
 ghost use Rattle.qs_lex.specs.declared.refusal.Refusal.{Refusal};
-ghost use Rattle.qs_deck.specs.working.Answers.{IsEndOfGrammars};
+ghost use Rattle.qs_deck.specs.working.Answers.{IsEndOfGrammars, IsEndOfList};
 
 use crate::checking::checked;
 use crate::deck::DeckEnd;
@@ -26,7 +25,7 @@ use std::alloc::Global;
 use std::str;
 
 /// The version of the text, the written grammars that these tokens of it are, and the names of their labels.
-fn written(
+pub fn written(
     alloc: Global,
     text: &str,
     tokens: &[Token],
@@ -35,11 +34,11 @@ fn written(
     requires spans { AreSpansFrom text.now 0 tokens.now }
     requires short { length text.now ≤ 4194304 }
     requires utf8 { IsUtf8 text.now }
-    requires shallow { (index : ℕ) → IsTooDeep tokens.now index → ⊥ }
     ensures written { IfOk result (λ found. AreWritten text.now found.0 found.1 found.2.items) }
     ensures few { IfOk result (λ found. length found.1 ≤ length text.now) }
-    ensures end { IfErr result (IsEndOfGrammars text.now) }
+    ensures end { IfErr result (IsEndOfList text.now) }
 {
+    shallow(text, tokens)?;
     let mut names = Names::new(alloc);
     match read_grammars(alloc, text, tokens, &mut names) {
         Ok((version, systems)) => Ok((version, names, systems)),
@@ -66,7 +65,6 @@ fn systems_of_tokens(
     ensures few { IfOk result (λ found. length found.0 ≤ length text.now) }
     ensures end { IfErr result (IsEndOfGrammars text.now) }
 {
-    shallow(text, tokens)?;
     let (version, names, raws) = written(alloc, text, tokens)?;
     let systems = checked(alloc, raws)?;
     Ok((names, systems, version))

@@ -3,9 +3,11 @@
 ghost use Rattle.std.specs.Prelude.{◌≡◌, ◌⊎◌, ℕ, List};
 ghost use Rattle.qs_lex.specs.declared.refusal.Refusal.{Refusal};
 ghost use Rattle.qs_graph.specs.Graphs.{QGraph};
+ghost use Rattle.qs_tree.specs.declared.cell.Label.{Label};
 ghost use Rattle.qs_lex.specs.Refusals.{IsRefusedFor};
 ghost use Rattle.qs_deck.specs.Decks.{Grammar, IsDeckOf};
 ghost use Rattle.qs_deck.specs.GrammarLists.{AreGrammarsOf, IsGrammarsFault};
+ghost use Rattle.qs_deck.specs.PhraseTexts.{IsPhraseText, IsPhraseFault};
 ghost use Rattle.qs_deck.specs.Refusals.{IsRefusalOf};
 ghost use Rattle.qs_deck.specs.Texts.{deck_text};
 
@@ -23,7 +25,7 @@ pub fn one_answer()
         (r : Refusal) → IsDeckOf text version names grammars G → IsRefusalOf text r → ⊥ }
 {}
 
-/// A text means one list of grammars, or has one first fault of such a list, and never both.
+/// A text means one list of grammars or has one first fault of such a list, and not both.
 pub fn one_list_of_grammars()
     ensures grammars { (text : List ℕ) (v w : ℕ) (names others : List (List ℕ)) (grammars more : List Grammar)
         → AreGrammarsOf text v names grammars → AreGrammarsOf text w others more
@@ -32,6 +34,27 @@ pub fn one_list_of_grammars()
         → IsRefusedFor IsGrammarsFault text s → r ≡ s }
     ensures not_both { (text : List ℕ) (version : ℕ) (names : List (List ℕ)) (grammars : List Grammar) (r : Refusal)
         → AreGrammarsOf text version names grammars → IsRefusedFor IsGrammarsFault text r → ⊥ }
+    ensures some { (text : List ℕ)
+        → ((version : ℕ) × (names : List (List ℕ)) × (grammars : List Grammar)
+        × AreGrammarsOf text version names grammars)
+        ⊎ ((r : Refusal) × IsRefusedFor IsGrammarsFault text r) }
+{}
+
+/// A text means one phrase text or has one first fault, and not both.
+pub fn one_phrase_text()
+    ensures phrases { (text : List ℕ) (v w : ℕ) (names others : List (List ℕ)) (grammars more : List Grammar)
+        → (lines further : List (List Label)) → IsPhraseText text v names grammars lines
+        → IsPhraseText text w others more further
+        → (v ≡ w) × (names ≡ others) × (grammars ≡ more) × (lines ≡ further) }
+    ensures refusal { (text : List ℕ) (r s : Refusal) → IsRefusedFor IsPhraseFault text r
+        → IsRefusedFor IsPhraseFault text s → r ≡ s }
+    ensures some { (text : List ℕ)
+        → ((version : ℕ) × (names : List (List ℕ)) × (grammars : List Grammar) × (lines : List (List Label))
+        × IsPhraseText text version names grammars lines)
+        ⊎ ((r : Refusal) × IsRefusedFor IsPhraseFault text r) }
+    ensures not_both { (text : List ℕ) (version : ℕ) (names : List (List ℕ)) (grammars : List Grammar)
+        (lines : List (List Label)) (r : Refusal) → IsPhraseText text version names grammars lines
+        → IsRefusedFor IsPhraseFault text r → ⊥ }
 {}
 
 /// What is written of a deck that a text means is a text that means this deck: the same version, grammars and graph,

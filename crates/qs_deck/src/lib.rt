@@ -9,14 +9,18 @@
 mod checking;
 mod deck;
 mod decks;
+pub mod examples;
 mod fault;
 mod grammar_lists;
 pub mod laws;
+mod lines;
 mod made_decks;
 mod made_texts;
+mod phrases;
 mod reading;
 mod system;
 mod version;
+mod word_lines;
 mod writing;
 mod written;
 
@@ -25,7 +29,9 @@ pub use decks::read_deck;
 pub use grammar_lists::read_systems;
 pub use made_decks::made;
 pub use made_texts::made_deck;
+pub use phrases::{Phrases, read_phrases};
 pub use std::alloc::AllocError as Memory;
 pub use system::System;
+pub use word_lines::WordLines;
 pub use writing::write_deck;
 pub use written::{RawDeck, RawSystem};

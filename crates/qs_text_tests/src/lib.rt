@@ -1,5 +1,5 @@
 //! Tests of how texts are read: what only calls show of tokens, of rules and chains with their bytes, of decks with
-//! the numbers of their labels, and of lists of grammars.
+//! the numbers of their labels, of lists of grammars, and of phrase texts.
 #![tactic(auto)]
 
 #[cfg(test)]
@@ -10,6 +10,8 @@ mod grammar_tests;
 mod graph_tests;
 #[cfg(test)]
 mod made_tests;
+#[cfg(test)]
+mod phrase_tests;
 #[cfg(test)]
 mod rule_tests;
 #[cfg(test)]

@@ -8,7 +8,8 @@ use Rattle.qs_graphtext.specs.declared.chain_end.ChainEnd.TheVariants as chain_e
 use Rattle.qs_deck.specs.declared.fault.FaultEnd.{FaultEnd}
 use Rattle.qs_deck.specs.declared.fault.FaultEnd.TheVariants.{Fault, Memory}
 use Rattle.qs_deck.specs.Refusals.{IsFault}
-use Rattle.qs_deck.specs.GrammarLists.{IsGrammarsFault}
+use Rattle.qs_deck.specs.GrammarLists.{IsListFault, IsGrammarsFault}
+use Rattle.qs_deck.specs.PhraseTexts.{IsPhraseFault}
 
 abbrev pub end_of_check : CheckEnd → FaultEnd
 end_of_check (check_end.Refused cause at) = Fault at cause
@@ -30,6 +31,15 @@ IsEndOf text Memory = Unit {0}
 abbrev pub IsEndOfGrammars : List ℕ → FaultEnd → Type 0
 IsEndOfGrammars text (Fault byte cause) = IsGrammarsFault text byte cause × IsCharBoundary text byte
 IsEndOfGrammars text Memory = Unit {0}
+
+-- the same for a text in UTF-8 that is no written list of grammars, and for one that means no phrase text
+abbrev pub IsEndOfList : List ℕ → FaultEnd → Type 0
+IsEndOfList text (Fault byte cause) = IsListFault text byte cause × IsCharBoundary text byte
+IsEndOfList text Memory = Unit {0}
+
+abbrev pub IsEndOfPhrases : List ℕ → FaultEnd → Type 0
+IsEndOfPhrases text (Fault byte cause) = IsPhraseFault text byte cause × IsCharBoundary text byte
+IsEndOfPhrases text Memory = Unit {0}
 
 -- the fault's place is between characters
 abbrev pub IsBetween : List ℕ → FaultEnd → Type 0

@@ -1,6 +1,7 @@
 -- That each of the facts of Named.antt has one proof at most, as a type has to have of what it keeps.
 use Rattle.std.specs.Prelude.{ℕ, List, Option, Some, None}
 use Rattle.std.specs.Coded.{Unit-prop, le_prop}
+use Rattle.qs_tree.specs.declared.cell.Label.{Label}
 use Rattle.qs_tree.specs.Trees.{Forest, no_tree, first_tree}
 use Rattle.qs_tree.specs.Text.{AreNamed}
 use Rattle.qs_pattern.specs.declared.pattern.Head.{Head}
@@ -14,7 +15,7 @@ use Rattle.qs_pattern.specs.working.Named.{AreConditionsNamed}
 use Rattle.qs_graph.specs.Graphs.{Arc}
 use Rattle.qs_graphtext.specs.Texts.{AreArcsNamed}
 use Rattle.qs_deck.specs.declared.system.System.{System}
-use Rattle.qs_deck.specs.Named.{IsRuleNamed, AreSystemsNamed}
+use Rattle.qs_deck.specs.Named.{IsRuleNamed, AreSystemsNamed, AreLinesNamed}
 
 -- Each of these facts has one proof at most.
 pub AreNamed-prop : (n : ℕ) (g : Forest) → IsProp (AreNamed n g)
@@ -69,3 +70,7 @@ pub AreArcsNamed-prop : (n : ℕ) (arcs : List Arc) → IsProp (AreArcsNamed n a
 AreArcsNamed-prop n arcs =
     λ x y i arc among.
     (le_prop (x arc among).0 (y arc among).0 i, AreNamed-prop n arc.tree.subtrees (x arc among).1 (y arc among).1 i)
+
+pub AreLinesNamed-prop : (n : ℕ) (lines : List (List Label)) → IsProp (AreLinesNamed n lines)
+AreLinesNamed-prop n lines =
+    λ x y i line among label there. le_prop (x line among label there) (y line among label there) i

@@ -9,6 +9,11 @@ checked-requires-clause-can c = meaning.list_can c.args.text.now c.in_ok-version
 pub checked-requires-clause-few : goal.checked-requires-clause-few
 checked-requires-clause-few c = meaning.list_few c.args.text.now c.in_ok-version.version c.in_ok-version.names c.in_ok-version.raws.items c.in_ok-version.ensures.written c.requires.short
 
+pub returns-in_err-version-clause-end : goal.returns-in_err-version-clause-end
+returns-in_err-version-clause-end c =
+    hands_on c.from_residual.result (IsEndOfGrammars c.args.text.now) c.from_residual.ensures.1
+    (meaning.list_end c.args.text.now c.requires.utf8 c.in_err-version.field-0.0 c.in_err-version.ensures.end)
+
 pub returns-in_err-systems-clause-end : goal.returns-in_err-systems-clause-end
 returns-in_err-systems-clause-end c =
     hands_on c.from_residual-in_err-systems.result (IsEndOfGrammars c.args.text.now) c.from_residual-in_err-systems.ensures.1

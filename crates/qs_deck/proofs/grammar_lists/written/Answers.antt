@@ -1,7 +1,7 @@
 use Rattle.std.proofs.Common.{length, sym, ◌∙◌, subst, ap, arith}
 use Rattle.qs_lex.specs.declared.refusal.Cause.TheVariants.{Syntax}
 use Rattle.qs_deck.specs.Refusals.{byte_of}
-use Rattle.qs_deck.specs.GrammarLists.{IsGrammarsFault, syntax}
+use Rattle.qs_deck.specs.GrammarLists.{IsListFault, syntax}
 use Rattle.qs_deck.specs.Grammar.{grammars}
 use Rattle.qs_reader.specs.Names.{NamesGrow}
 use Rattle.qs_deck.specs.working.Versions.{AreReadAs, EndsIn}
@@ -14,8 +14,8 @@ read_grammars-requires-clause-room c =
 
 pub returns-in-Err-Syntax-clause-end : goal.returns-in-Err-Syntax-clause-end
 returns-in-Err-Syntax-clause-end c = (
-  subst (λ place. IsGrammarsFault c.args.text.now place Syntax) (sym (c.byte_of.ensures.value ∙ ap (byte_of c.args.text.now c.args.tokens.now) c.in-Err-Syntax.index-is))
-      (syntax c.args.tokens.now c.in-Err-Syntax.index (record { utf8 = c.requires.utf8; are_tokens = c.requires.of_text; shallow = c.requires.shallow })
+  subst (λ place. IsListFault c.args.text.now place Syntax) (sym (c.byte_of.ensures.value ∙ ap (byte_of c.args.text.now c.args.tokens.now) c.in-Err-Syntax.index-is))
+      (syntax c.args.tokens.now c.in-Err-Syntax.index (record { utf8 = c.requires.utf8; are_tokens = c.requires.of_text; shallow = c.in_ok-shallow.ensures.shallow })
       (subst (EndsIn grammars c.args.text.now c.args.tokens.now) c.in-Err-Syntax.field-0-is c.in-Err-Syntax.ensures.ends)),
   c.byte_of.ensures.border,
 )
@@ -26,7 +26,7 @@ returns-in-Ok-clause-written c =
     record {
       version_is = are.version_is;
       tokens = c.args.tokens.now;
-      has_tokens = record { utf8 = c.requires.utf8; are_tokens = c.requires.of_text; shallow = c.requires.shallow };
+      has_tokens = record { utf8 = c.requires.utf8; are_tokens = c.requires.of_text; shallow = c.in_ok-shallow.ensures.shallow };
       front = are.front;
       body = are.body;
       are = are.are;
