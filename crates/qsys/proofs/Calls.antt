@@ -3,14 +3,13 @@ use Rattle.std.proofs.Common.{◌≡◌, ◌⊎◌, ◌+◌, ◌<◌, ℕ, List,
 use Rattle.std.specs.Io.KnownBytes.{prepend_known}
 use Rattle.qs_io.specs.declared.device.Source.{Ghosts as SourceFacts}
 use Rattle.qs_io.specs.declared.device.Sink.{Ghosts as SinkFacts}
-use Rattle.qs_io.specs.Devices.{Gives, HasRisen}
+use Rattle.qs_io.specs.Devices.{Gives}
 use Rattle.qs_io.specs.Limits.{most_text_bytes}
 use Rattle.qsys.specs.declared.job.Job.{Job}
-use Rattle.qsys.specs.declared.job.Command.TheVariants.{Made}
 use Rattle.qsys.specs.declared.status.Status.{Status}
-use Rattle.qsys.specs.declared.status.Status.TheVariants.{Done, Usage, Refused, Limit, ReadFault, TooLong, WriteFault, Memory}
-use Rattle.qsys.specs.Answers.{EndsAsDefined, IsOfWholeText}
-use Rattle.qsys.specs.Calls.{DoesJob, HasCause, IsAnswerOfMade, TellsReadFaults, TellsWriteFaults}
+use Rattle.qsys.specs.declared.status.Status.TheVariants.{Done, Limit, ReadFault, TooLong, WriteFault, Memory}
+use Rattle.qsys.specs.Answers.{IsOfWholeText}
+use Rattle.qsys.specs.Calls.{DoesJob, HasCause, IsAnswerOfMade, TellsWriteFaults}
 
 -- two answers that aren't one
 pub apart : {answer a b : Status} → (a ≡ b → ⊥) → answer ≡ a → answer ≡ b → ⊥

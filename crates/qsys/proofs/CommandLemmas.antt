@@ -24,7 +24,8 @@ use Rattle.qsys.proofs.OptionLemmas.{IsNumberOption, option_read}
 abbrev rules : List Rule
 rules =
     required_word (codes "command") ∷ number_option (codes "limit") 1 1000000 (codes "10000")
-    ∷ number_option (codes "workers") 1 32 (codes "4") ∷ number_option (codes "size") 0 13 (codes "8") ∷ []
+    ∷ number_option (codes "workers") 1 32 (codes "4") ∷ number_option (codes "size") 0 13 (codes "8")
+    ∷ number_option (codes "readings") 1 1000 (codes "10") ∷ []
 
 rules_are : (c : Command) → app_of c ≡ simple_command → map rule_of (args_of c) ≡ rules
 unfolding simple_command
@@ -67,15 +68,16 @@ is_false : (b : Bool) → not b ≡ true → b ≡ false
 is_false true e = absurd (cc e)
 is_false false e = refl
 
-all_simple : (k : ℕ) (r : Rule) → k < 4 → (slice_index_or rules k r).is_simple ≡ true
+all_simple : (k : ℕ) (r : Rule) → k < 5 → (slice_index_or rules k r).is_simple ≡ true
 all_simple zero r lt = refl
 all_simple (suc zero) r lt = refl
 all_simple (suc (suc zero)) r lt = refl
 all_simple (suc (suc (suc zero))) r lt = refl
-all_simple (suc (suc (suc (suc k)))) r lt = absurd (omega arith)
+all_simple (suc (suc (suc (suc zero)))) r lt = refl
+all_simple (suc (suc (suc (suc (suc k))))) r lt = absurd (omega arith)
 
 module _ (c : Command) (is : app_of c ≡ simple_command) where
-  count : length (args_of c) ≡ 4
+  count : length (args_of c) ≡ 5
   count = sym (length-map (args_of c) rule_of) ∙ ap length (rules_are c is)
 
   rule_at : (k : ℕ) (d : Arg) → rule_of (slice_index_or (args_of c) k d) ≡ slice_index_or rules k (rule_of d)
@@ -92,18 +94,18 @@ module _ (c : Command) (is : app_of c ≡ simple_command) where
 
   names_no_group : NamesNoGroup c
   names_no_group k d lt =
-      let four = count in
+      let five = count in
       let simple : is_simple_arg (slice_index_or (args_of c) k d) ≡ true = ap (λ (r : Rule). r.is_simple) (rule_at k d) ∙ all_simple k (rule_of d) (omega arith) in
       empty_list _ (simple_parts (slice_index_or (args_of c) k d) simple).1
 
-  number_option_at : (k : ℕ) (d : Arg) (name default : Text) (least most : ℕ) → k < 4
+  number_option_at : (k : ℕ) (d : Arg) (name default : Text) (least most : ℕ) → k < 5
       → slice_index_or rules k (rule_of d) ≡ number_option name least most default
-      → ((j : ℕ) (r : Rule) → j < 4 → bytes_eq (slice_index_or rules j r).id name ≡ true → j ≡ k)
+      → ((j : ℕ) (r : Rule) → j < 5 → bytes_eq (slice_index_or rules j r).id name ≡ true → j ≡ k)
       → (name ≡ [] → ⊥) → ((name ≡ codes "help") ⊎ (name ≡ codes "version") → ⊥)
       → IsNumberOption c k d least most
   number_option_at k d name default least most within at only named own =
       let a = slice_index_or (args_of c) k d in
-      let four = count in
+      let five = count in
       let rule : rule_of a ≡ number_option name least most default = rule_at k d ∙ at in
       let id : a.id.now ≡ name = ap (λ (r : Rule). r.id) rule in
       let simple : is_simple_arg a ≡ true = ap (λ (r : Rule). r.is_simple) rule in
@@ -126,26 +128,37 @@ module _ (c : Command) (is : app_of c ≡ simple_command) where
         own = λ auto. own (elim auto [ inl h ↦ inl (sym id ∙ h) | inr h ↦ inr (sym id ∙ h) ]);
       }
 
-only_limit : (j : ℕ) (r : Rule) → j < 4 → bytes_eq (slice_index_or rules j r).id (codes "limit") ≡ true → j ≡ 1
+only_limit : (j : ℕ) (r : Rule) → j < 5 → bytes_eq (slice_index_or rules j r).id (codes "limit") ≡ true → j ≡ 1
 only_limit zero r lt e = absurd (cc e)
 only_limit (suc zero) r lt e = refl
 only_limit (suc (suc zero)) r lt e = absurd (cc e)
 only_limit (suc (suc (suc zero))) r lt e = absurd (cc e)
-only_limit (suc (suc (suc (suc j)))) r lt e = absurd (omega arith)
+only_limit (suc (suc (suc (suc zero)))) r lt e = absurd (cc e)
+only_limit (suc (suc (suc (suc (suc j))))) r lt e = absurd (omega arith)
 
-only_workers : (j : ℕ) (r : Rule) → j < 4 → bytes_eq (slice_index_or rules j r).id (codes "workers") ≡ true → j ≡ 2
+only_workers : (j : ℕ) (r : Rule) → j < 5 → bytes_eq (slice_index_or rules j r).id (codes "workers") ≡ true → j ≡ 2
 only_workers zero r lt e = absurd (cc e)
 only_workers (suc zero) r lt e = absurd (cc e)
 only_workers (suc (suc zero)) r lt e = refl
 only_workers (suc (suc (suc zero))) r lt e = absurd (cc e)
-only_workers (suc (suc (suc (suc j)))) r lt e = absurd (omega arith)
+only_workers (suc (suc (suc (suc zero)))) r lt e = absurd (cc e)
+only_workers (suc (suc (suc (suc (suc j))))) r lt e = absurd (omega arith)
 
-only_size : (j : ℕ) (r : Rule) → j < 4 → bytes_eq (slice_index_or rules j r).id (codes "size") ≡ true → j ≡ 3
+only_size : (j : ℕ) (r : Rule) → j < 5 → bytes_eq (slice_index_or rules j r).id (codes "size") ≡ true → j ≡ 3
 only_size zero r lt e = absurd (cc e)
 only_size (suc zero) r lt e = absurd (cc e)
 only_size (suc (suc zero)) r lt e = absurd (cc e)
 only_size (suc (suc (suc zero))) r lt e = refl
-only_size (suc (suc (suc (suc j)))) r lt e = absurd (omega arith)
+only_size (suc (suc (suc (suc zero)))) r lt e = absurd (cc e)
+only_size (suc (suc (suc (suc (suc j))))) r lt e = absurd (omega arith)
+
+only_readings : (j : ℕ) (r : Rule) → j < 5 → bytes_eq (slice_index_or rules j r).id (codes "readings") ≡ true → j ≡ 4
+only_readings zero r lt e = absurd (cc e)
+only_readings (suc zero) r lt e = absurd (cc e)
+only_readings (suc (suc zero)) r lt e = absurd (cc e)
+only_readings (suc (suc (suc zero))) r lt e = absurd (cc e)
+only_readings (suc (suc (suc (suc zero)))) r lt e = refl
+only_readings (suc (suc (suc (suc (suc j))))) r lt e = absurd (omega arith)
 
 -- a name of another first letter than `help` and `version`
 own_name : (name : Text) (first : ℕ) → slice_index_or name 0 0 ≡ first → (first ≡ 104 → ⊥) → (first ≡ 118 → ⊥)
@@ -153,9 +166,9 @@ own_name : (name : Text) (first : ℕ) → slice_index_or name 0 0 ≡ first →
 own_name name first is help version (inl e) = help (sym is ∙ ap (λ (t : Text). slice_index_or t 0 0) e)
 own_name name first is help version (inr e) = version (sym is ∙ ap (λ (t : Text). slice_index_or t 0 0) e)
 
-some_arg : (xs : List Arg) → length xs ≡ 4 → Arg
-some_arg [] four = absurd (omega arith)
-some_arg (x ∷ xs) four = x
+some_arg : (xs : List Arg) → length xs ≡ 5 → Arg
+some_arg [] five = absurd (omega arith)
+some_arg (x ∷ xs) five = x
 
 module _ (c : Command) (is : app_of c ≡ simple_command) (m : ArgMatches) (p : IsParsedFrom c m) where
   abbrev d : Arg
@@ -182,4 +195,7 @@ module _ (c : Command) (is : app_of c ≡ simple_command) (m : ArgMatches) (p : 
     size = number_at 3 (codes "size") 0 13
         (number_option_at c is 3 d (codes "size") (codes "8") 0 13 (omega arith) refl only_size (λ e. cc e) (own_name (codes "size") 115 refl (λ e. omega arith) (λ e. omega arith)))
         (ap (λ (r : Rule). r.id) (rule_at c is 3 d));
+    readings = number_at 4 (codes "readings") 1 1000
+        (number_option_at c is 4 d (codes "readings") (codes "10") 1 1000 (omega arith) refl only_readings (λ e. cc e) (own_name (codes "readings") 114 refl (λ e. omega arith) (λ e. omega arith)))
+        (ap (λ (r : Rule). r.id) (rule_at c is 4 d));
   }

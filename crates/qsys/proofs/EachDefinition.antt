@@ -1,5 +1,5 @@
 -- For each job and all bytes a text is defined, with its status.
-use Rattle.std.proofs.Common.{◌≡◌, ℕ, ◌+◌, ◌^◌, ◌<◌, List, [], ◌∷◌, length, map, refl, sym, subst, ⊎_elim, inl, inr, arith}
+use Rattle.std.proofs.Common.{◌≡◌, ℕ, ◌+◌, ◌^◌, ◌<◌, List, [], ◌∷◌, length, map, refl, sym, subst, ⊎_elim, arith}
 use Rattle.std.specs.Prelude.{◌⊎◌}
 use Rattle.std.specs.List.{range_with_len}
 use Rattle.std.proofs.lemmas.Nat.{pow_pos}
@@ -16,6 +16,9 @@ use Rattle.qs_clean.proofs.CascadeExistence.{has_outcome}
 use Rattle.qs_graphtext.specs.Texts.{graph_text}
 use Rattle.qs_deck.specs.Decks.{Grammar, IsDeckOf}
 use Rattle.qs_deck.specs.Refusals.{IsRefusalOf}
+use Rattle.qs_deck.specs.PhraseTexts.{IsPhraseText, IsPhraseFault}
+use Rattle.qs_lex.specs.Refusals.{IsRefusedFor}
+use Rattle.qs_tree.specs.declared.cell.Label.{Label}
 use Rattle.qs_deck.specs.Texts.{deck_text}
 use Rattle.qs_deck.specs.MadeDecks.{first_var, second_var, of_level, level_rule, made_grammar, word_tree, words, made_graph}
 use Rattle.qs_deck.proofs.MadeLemmas.{rule_accepted}
@@ -26,18 +29,26 @@ use Rattle.qsys.specs.declared.job.Command.{Command}
 use Rattle.qsys.specs.declared.job.Command.TheVariants as command
 use Rattle.qsys.specs.declared.job.Job.{Job}
 use Rattle.qsys.specs.Texts.{refusal_line}
-use Rattle.qsys.specs.Defined.{IsDefined, of_refused, of_deck, of_made, Reads, IsDone, IsMadeOf, status_of, summary}
+use Rattle.qsys.specs.Defined.{IsDefined, of_refused, of_deck, of_made, of_refused_phrases, of_phrases, ReadsDeck, IsDone, IsMadeOf, status_of, summary}
 use Rattle.qsys.proofs.Outcomes.{some_outcome}
 use Rattle.qsys.proofs.Tellings.{some_explained}
 use Rattle.qsys.proofs.LevelsTold.{some_telling}
+use Rattle.qsys.proofs.PhrasesTold.{lines_some, some_phrases}
+use Rattle.qsys.proofs.PhraseRuns.{phrases_accepted}
 
 -- a text means a deck or is refused
 abbrev pub SomeAnswer : Type 0
 SomeAnswer = (text : List ℕ) → ((version : ℕ) × (names : List (List ℕ)) × (grammars : List Grammar) × (G : QGraph) × IsDeckOf text version names grammars G) ⊎ ((r : Refusal) × IsRefusalOf text r)
 
+-- and in the same way a phrase text
+abbrev pub SomePhrases : Type 0
+SomePhrases = (text : List ℕ)
+    → ((version : ℕ) × (names : List (List ℕ)) × (grammars : List Grammar) × (lines : List (List Label)) × IsPhraseText text version names grammars lines)
+    ⊎ ((r : Refusal) × IsRefusedFor IsPhraseFault text r)
+
 -- what is done with a deck that was read
 
-some_done : (which : Command) → Reads which → (L : ℕ) (bytes : List ℕ) (version : ℕ) (names : List (List ℕ)) (grammars : List Grammar) (graph : QGraph) → IsDeckOf bytes version names grammars graph
+some_done : (which : Command) → ReadsDeck which → (L : ℕ) (bytes : List ℕ) (version : ℕ) (names : List (List ℕ)) (grammars : List Grammar) (graph : QGraph) → IsDeckOf bytes version names grammars graph
     → (text : List ℕ) × (status : Status) × IsDone which L version names grammars graph text status
 some_done command.Run reads L bytes version names grammars graph deck =
     let o = some_outcome L names graph grammars (deck_accepted deck) deck.valid in (o.0, status_of o.1, record { ending = o.1; outcome = o.2; status_is = refl })
@@ -46,15 +57,30 @@ some_done command.Graph reads L bytes version names grammars graph deck = (graph
 some_done command.Made reads L bytes version names grammars graph deck = absurd reads
 some_done command.Explain reads L bytes version names grammars graph deck =
     let o = some_explained L names grammars (deck_accepted deck) graph deck.valid in (o.0, status_of o.1, record { ending = o.1; explains = o.2; status_is = refl })
+some_done command.Phrase reads L bytes version names grammars graph deck = absurd reads
 some_done command.Levels reads L bytes version names grammars graph deck =
     let told = some_telling names grammars in (told.0, Done, record { tells = told.1; status_is = refl })
 
-some_read : SomeAnswer → (job : Job) → Reads job.command → (bytes : List ℕ) → (text : List ℕ) × (status : Status) × IsDefined job bytes text status
+some_read : SomeAnswer → (job : Job) → ReadsDeck job.command → (bytes : List ℕ) → (text : List ℕ) × (status : Status) × IsDefined job bytes text status
 some_read some job reads bytes =
     ⊎_elim
     (λ d. let done = some_done job.command reads job.limit bytes d.0 d.1 d.2 d.3 d.4 in
     (done.0, done.1, of_deck (record { version = d.0; names = d.1; grammars = d.2; graph = d.3; deck = d.4; done = done.2 })))
     (λ r. (refusal_line r.0, Refused, of_refused reads (record { refusal = r.0; refused = r.1; text_is = refl; status_is = refl })))
+    (some bytes)
+
+-- what is told of a phrase text that was read
+
+some_told_of : SomePhrases → (job : Job) → job.command ≡ command.Phrase → (bytes : List ℕ) → (text : List ℕ) × (status : Status) × IsDefined job bytes text status
+some_told_of some job phrase bytes =
+    ⊎_elim
+    (λ (version, names, grammars, lines, is).
+    let (text, ending, tells) = some_phrases job.limit job.readings names grammars (phrases_accepted is) lines (lines_some is) 1 in (
+      text,
+      status_of ending,
+      of_phrases phrase (record { version = version; names = names; grammars = grammars; lines = lines; phrases = is; ending = ending; tells = tells; status_is = refl }),
+    ))
+    (λ r. (refusal_line r.0, Refused, of_refused_phrases phrase (record { refusal = r.0; refused = r.1; text_is = refl; status_is = refl })))
     (some bytes)
 
 -- what a made deck leaves
@@ -89,13 +115,14 @@ some_made L size =
 
 -- what is defined
 
-some_for : SomeAnswer → (job : Job) (bytes : List ℕ) (which : Command) → job.command ≡ which → (text : List ℕ) × (status : Status) × IsDefined job bytes text status
-some_for some job bytes command.Run same = some_read some job (subst Reads (sym same) tt) bytes
-some_for some job bytes command.Check same = some_read some job (subst Reads (sym same) tt) bytes
-some_for some job bytes command.Graph same = some_read some job (subst Reads (sym same) tt) bytes
-some_for some job bytes command.Explain same = some_read some job (subst Reads (sym same) tt) bytes
-some_for some job bytes command.Levels same = some_read some job (subst Reads (sym same) tt) bytes
-some_for some job bytes command.Made same = let made = some_made job.limit job.size in (made.0, made.1, of_made same made.2)
+some_for : SomeAnswer → SomePhrases → (job : Job) (bytes : List ℕ) (which : Command) → job.command ≡ which → (text : List ℕ) × (status : Status) × IsDefined job bytes text status
+some_for some phrases job bytes command.Run same = some_read some job (subst ReadsDeck (sym same) tt) bytes
+some_for some phrases job bytes command.Check same = some_read some job (subst ReadsDeck (sym same) tt) bytes
+some_for some phrases job bytes command.Graph same = some_read some job (subst ReadsDeck (sym same) tt) bytes
+some_for some phrases job bytes command.Explain same = some_read some job (subst ReadsDeck (sym same) tt) bytes
+some_for some phrases job bytes command.Levels same = some_read some job (subst ReadsDeck (sym same) tt) bytes
+some_for some phrases job bytes command.Phrase same = some_told_of phrases job same bytes
+some_for some phrases job bytes command.Made same = let made = some_made job.limit job.size in (made.0, made.1, of_made same made.2)
 
-pub some_definition : SomeAnswer → (job : Job) (bytes : List ℕ) → (text : List ℕ) × (status : Status) × IsDefined job bytes text status
-some_definition some job bytes = some_for some job bytes job.command refl
+pub some_definition : SomeAnswer → SomePhrases → (job : Job) (bytes : List ℕ) → (text : List ℕ) × (status : Status) × IsDefined job bytes text status
+some_definition some phrases job bytes = some_for some phrases job bytes job.command refl

@@ -10,7 +10,7 @@ use Rattle.qs_io.specs.Devices.{AppendsProperPrefix}
 use Rattle.qs_io.proofs.Transfers.{append_known-append_known}
 use Rattle.qs_pattern.specs.Rules.{Rule, IsAccepted}
 use Rattle.qs_pattern.specs.Named.{ArePatternsNamed}
-use Rattle.qs_graph.specs.Graphs.{QGraph, IsValid}
+use Rattle.qs_graph.specs.Graphs.{QGraph}
 use Rattle.qs_clean.specs.Cascades.{Ending, all_done, by_limit}
 use Rattle.qs_cascade.specs.declared.stage.StageEnd.{StageEnd}
 use Rattle.qs_cascade.specs.declared.stage.StageEnd.TheVariants as end
@@ -21,12 +21,12 @@ use Rattle.qs_deck.specs.Named.{AreSystemsNamed, IsSystemNamed}
 use Rattle.qsys.specs.declared.status.Status.{Status}
 use Rattle.qsys.specs.declared.status.Status.TheVariants.{Done, Limit, WriteFault, Memory}
 use Rattle.qsys.specs.declared.telling.Telling.{Telling}
-use Rattle.qsys.specs.working.Telling.{Tells, IsTold}
+use Rattle.qsys.specs.working.Telling.{Begins, Tells, IsTold}
 use Rattle.qsys.specs.Defined.{status_of}
 use Rattle.qsys.specs.Cascading.{AreAccepted}
-use Rattle.qsys.specs.working.Cascading.{DeliversCascade, CanGoOn, HasCome}
+use Rattle.qsys.specs.working.Cascading.{DeliversBlocks, DeliversCascade, CanGoOn, HasCome, HasRun}
 use Rattle.qsys.proofs.Outcomes.{left_valid}
-use Rattle.qsys.proofs.Tellings.{none_told, some_told, told_some, more_told, empty_told, limit_told, told_behind}
+use Rattle.qsys.proofs.Tellings.{none_told, some_told, told_some, more_told, none_begun, more_begun, empty_told, limit_told, told_behind}
 
 -- proper prefixes of what is written
 
@@ -47,75 +47,72 @@ block_begun old mid new front text more is (n, within, begun) = (
       ∙ ap (append_known old) (sym (take-append-add front (text ++ more) n)),
 )
 
+pub nothing_more : (known : Option (List ℕ)) → known ≡ append_known known []
+nothing_more None = refl
+nothing_more (Some bytes) = ap (λ (b : List ℕ). Some b) (sym (append-nil bytes))
+
+-- a text that is written block by block
+module _ (Whole : List ℕ → Ending → Type 0) (Begun : List ℕ → Type 0) (old : Option (List ℕ)) where
+  -- nothing was written yet
+  pub come_first : HasCome Whole Whole Begun Begun old old
+  come_first = record { front = []; written = nothing_more old; goes_on = λ text ending o. o; begins = λ text o. o }
+
+  module _ (Rest : List ℕ → Ending → Type 0) (RestBegun : List ℕ → Type 0) (mid : Option (List ℕ)) (come : HasCome Whole Rest Begun RestBegun old mid) where
+    further : (text : List ℕ) (new : Option (List ℕ)) → new ≡ append_known mid text → new ≡ append_known old (come.front ++ text)
+    further text new is = is ∙ ap (λ (known : Option (List ℕ)). append_known known text) come.written ∙ append_known-append_known old come.front text
+
+    -- one block more was written
+    pub come_further : (Next : List ℕ → Ending → Type 0) (NextBegun : List ℕ → Type 0) (text : List ℕ)
+        → ((more : List ℕ) (ending : Ending) → Next more ending → Rest (text ++ more) ending) → ((more : List ℕ) → NextBegun more → RestBegun (text ++ more))
+        → (new : Option (List ℕ)) → new ≡ append_known mid text → HasCome Whole Next Begun NextBegun old new
+    come_further Next NextBegun text goes_on begins new is = record {
+      front = come.front ++ text;
+      written = further text new is;
+      goes_on = λ more ending o.
+          subst (λ (bytes : List ℕ). Whole bytes ending) (sym (append_assoc come.front text more)) (come.goes_on (text ++ more) ending (goes_on more ending o));
+      begins = λ more o. subst Begun (sym (append_assoc come.front text more)) (come.begins (text ++ more) (begins more o));
+    }
+
+    -- the last of the text was written
+    pub come_to_end : (text : List ℕ) (ending : Ending) → Rest text ending → (new : Option (List ℕ)) → new ≡ append_known mid text → (answer : Status) → answer ≡ status_of ending
+        → DeliversBlocks Whole Begun old new answer
+    come_to_end text ending o new is answer same = record {
+      text = come.front ++ text;
+      ending = ending;
+      outcome = come.goes_on text ending o;
+      delivered = inl (inl (same, further text new is));
+    }
+
+    -- nothing is left to write
+    pub all_written : (ending : Ending) → Rest [] ending → (answer : Status) → answer ≡ status_of ending → DeliversBlocks Whole Begun old mid answer
+    all_written ending o answer same = come_to_end [] ending o mid (nothing_more mid) answer same
+
+    -- there was no memory for the next block
+    pub out_of_memory : (text : List ℕ) (ending : Ending) → Rest text ending → 0 < length text → RestBegun [] → DeliversBlocks Whole Begun old mid Memory
+    out_of_memory text ending o some none = record {
+      text = come.front ++ text;
+      ending = ending;
+      outcome = come.goes_on text ending o;
+      delivered = inr (record {
+        wanting = refl;
+        front = come.front;
+        begins = subst Begun (append-nil come.front) (come.begins [] none);
+        written = come.written;
+        prefix = front_written old mid come.front text some come.written;
+      });
+    }
+
+    -- the sink failed in the next block
+    pub sink_failed : (text more : List ℕ) (ending : Ending) → Rest (text ++ more) ending → (new : Option (List ℕ)) → AppendsProperPrefix mid new text
+        → DeliversBlocks Whole Begun old new WriteFault
+    sink_failed text more ending o new begun = record {
+      text = come.front ++ (text ++ more);
+      ending = ending;
+      outcome = come.goes_on (text ++ more) ending o;
+      delivered = inl (inr (refl, block_begun old mid new come.front text more come.written begun));
+    }
+
 module _ (t : Telling) (L : ℕ) (names : List (List ℕ)) where
-  module _ (G : QGraph) (grammars : List Grammar) (old : Option (List ℕ)) where
-    nothing_more : (known : Option (List ℕ)) → known ≡ append_known known []
-    nothing_more None = refl
-    nothing_more (Some bytes) = ap (λ (b : List ℕ). Some b) (sym (append-nil bytes))
-
-    -- nothing was run yet
-    pub come_first : HasCome t L names G grammars old old G grammars
-    come_first = record { front = []; written = nothing_more old; goes_on = λ text ending o. o }
-
-    module _ (mid : Option (List ℕ)) (now : QGraph) where
-      -- one grammar more, which left a graph and of which the text was written
-      pub come_further : (grammar : Grammar) (others : List Grammar) → HasCome t L names G grammars old mid now (grammar ∷ others)
-          → (H : QGraph) (firings : ℕ) → IsStageEnd grammar.rules now L (end.Left H firings)
-          → (text : List ℕ) → IsTold t L names grammar.name grammar.rules now (end.Left H firings) text
-          → (new : Option (List ℕ)) → new ≡ append_known mid text
-          → HasCome t L names G grammars old new H others
-      come_further grammar others come H firings leaves text told new is = record {
-        front = come.front ++ text;
-        written = is ∙ ap (λ (known : Option (List ℕ)). append_known known text) come.written ∙ append_known-append_known old come.front text;
-        goes_on = λ more ending o.
-            subst (λ (bytes : List ℕ). Tells t L names G grammars bytes ending) (sym (append_assoc come.front text more))
-            (come.goes_on (text ++ more) ending (more_told t L names now H firings grammar others text more ending told leaves o));
-      }
-
-      -- the last of the text was written
-      pub come_to_end : (others : List Grammar) → HasCome t L names G grammars old mid now others → (text : List ℕ) (ending : Ending) → Tells t L names now others text ending
-          → (new : Option (List ℕ)) → new ≡ append_known mid text → (answer : Status) → answer ≡ status_of ending
-          → DeliversCascade t L names G grammars old new answer
-      come_to_end others come text ending o new is answer same = record {
-        text = come.front ++ text;
-        ending = ending;
-        outcome = come.goes_on text ending o;
-        delivered =
-            inl (same, is ∙ ap (λ (known : Option (List ℕ)). append_known known text) come.written ∙ append_known-append_known old come.front text);
-      }
-
-      -- no grammar is left
-      pub all_run : HasCome t L names G grammars old mid now [] → (answer : Status) → answer ≡ status_of all_done → DeliversCascade t L names G grammars old mid answer
-      all_run come answer same =
-          come_to_end [] come [] all_done (none_told t L names now) mid (nothing_more mid) answer same
-
-      -- there was no memory for the next grammar
-      pub out_of_memory : (grammar : Grammar) (others : List Grammar) → AreAccepted (grammar ∷ others) → IsValid now
-          → HasCome t L names G grammars old mid now (grammar ∷ others) → DeliversCascade t L names G grammars old mid Memory
-      out_of_memory grammar others accepted valid come =
-          let (text, ending, o) = some_told t L names now (grammar ∷ others) accepted valid in
-          let some : 0 < length text = told_some t L names now grammar others text ending o in
-          record {
-            text = come.front ++ text;
-            ending = ending;
-            outcome = come.goes_on text ending o;
-            delivered = inr (inr refl, front_written old mid come.front text some come.written);
-          }
-
-      -- the sink failed in the text of the next grammar
-      pub sink_failed : (grammar : Grammar) (others : List Grammar) → AreAccepted (grammar ∷ others) → IsValid now → HasCome t L names G grammars old mid now (grammar ∷ others)
-          → (e : StageEnd) → IsStageEnd grammar.rules now L e → (text : List ℕ) → IsTold t L names grammar.name grammar.rules now e text
-          → (new : Option (List ℕ)) → AppendsProperPrefix mid new text
-          → DeliversCascade t L names G grammars old new WriteFault
-      sink_failed grammar others accepted valid come e is text told new begun =
-          let (more, ending, o) = told_behind t L names now grammar others accepted valid e is text told in
-          record {
-            text = come.front ++ (text ++ more);
-            ending = ending;
-            outcome = come.goes_on (text ++ more) ending o;
-            delivered = inr (inl refl, block_begun old mid new come.front text more come.written begun);
-          }
-
   -- there is room for one grammar less
   pub goes_on_with : (G H : QGraph) (firings n : ℕ) (rules : List Rule) → L ≤ 1000000 → CanGoOn names G (suc n) → ((rule : Rule) → rule ∈ rules → IsAccepted rule)
       → LeavesGraph rules G L firings H → 0 < length H.arcs → GrowsWithin G L (end.Left H firings) → IsEndNamed (length names) (end.Left H firings) → CanGoOn names H n
@@ -158,15 +155,27 @@ each_right n systems system named i rule j = ((named system i).rules rule j).rig
 -- one turn of the loop over the grammars
 module _ (t : Telling) (L : ℕ) (names : List (List ℕ)) (systems : List System) (start : QGraph) (old mid : Option (List ℕ)) (now : QGraph) (i : ℕ) (system : System)
     (is : system ≡ get_or systems i system) (low : i < length systems) (accepted : AreAccepted (map grammar_of systems))
-    (come : HasCome t L names start (map grammar_of systems) old mid now (map grammar_of (drop i systems))) (can : CanGoOn names now (length (drop i systems))) where
+    (come : HasRun t L names start (map grammar_of systems) old mid now (map grammar_of (drop i systems))) (can : CanGoOn names now (length (drop i systems))) where
   abbrev others : List Grammar
   others = map grammar_of (drop (i + 1) systems)
+
+  abbrev Whole : List ℕ → Ending → Type 0
+  Whole = Tells t L names start (map grammar_of systems)
+
+  abbrev Rest : List ℕ → Ending → Type 0
+  Rest = Tells t L names now (grammar_of system ∷ others)
+
+  abbrev Begun : List ℕ → Type 0
+  Begun = Begins t L names start (map grammar_of systems)
+
+  abbrev RestBegun : List ℕ → Type 0
+  RestBegun = Begins t L names now (grammar_of system ∷ others)
 
   at_system : drop i systems ≡ system ∷ drop (i + 1) systems
   at_system = next_system systems i system is low
 
-  come_to : HasCome t L names start (map grammar_of systems) old mid now (grammar_of system ∷ others)
-  come_to = subst (λ (left : List System). HasCome t L names start (map grammar_of systems) old mid now (map grammar_of left)) at_system come
+  come_to : HasRun t L names start (map grammar_of systems) old mid now (grammar_of system ∷ others)
+  come_to = subst (λ (left : List System). HasRun t L names start (map grammar_of systems) old mid now (map grammar_of left)) at_system come
 
   accepted_from : AreAccepted (grammar_of system ∷ others)
   accepted_from = subst (λ (left : List System). AreAccepted (map grammar_of left)) at_system (rest_accepted systems i accepted)
@@ -183,7 +192,10 @@ module _ (t : Telling) (L : ℕ) (names : List (List ℕ)) (systems : List Syste
 
   -- there was no memory
   pub turn_without_memory : DeliversCascade t L names start (map grammar_of systems) old mid Memory
-  turn_without_memory = out_of_memory t L names start (map grammar_of systems) old mid now (grammar_of system) others accepted_from can.valid come_to
+  turn_without_memory =
+      let (text, ending, o) = some_told t L names now (grammar_of system ∷ others) accepted_from can.valid in
+      out_of_memory Whole Begun old Rest RestBegun mid come_to text ending o (told_some t L names now (grammar_of system) others text ending o)
+      (none_begun t L names now (grammar_of system) others)
 
   -- its labels are named
   pub turn_named : AreSystemsNamed (length names) systems → IsSystemNamed (length names) system
@@ -194,38 +206,40 @@ module _ (t : Telling) (L : ℕ) (names : List (List ℕ)) (systems : List Syste
     pub turn_failed : (new : Option (List ℕ)) (bytes : List ℕ) → bytes ≡ text → AppendsProperPrefix mid new bytes
         → DeliversCascade t L names start (map grammar_of systems) old new WriteFault
     turn_failed new bytes same begun =
-        sink_failed t L names start (map grammar_of systems) old mid now (grammar_of system) others accepted_from can.valid come_to e ends text told new
-        (subst (AppendsProperPrefix mid new) same begun)
+        let (more, ending, o) = told_behind t L names now (grammar_of system) others accepted_from can.valid e ends text told in
+        sink_failed Whole Begun old Rest RestBegun mid come_to text more ending o new (subst (AppendsProperPrefix mid new) same begun)
 
     module _ (new : Option (List ℕ)) (bytes : List ℕ) (same : bytes ≡ text) (written : new ≡ append_known mid bytes) where
-      all_written : new ≡ append_known mid text
-      all_written = written ∙ ap (append_known mid) same
+      text_written : new ≡ append_known mid text
+      text_written = written ∙ ap (append_known mid) same
 
       -- no arc was left
       pub turn_empty : (firings : ℕ) → e ≡ end.Empty firings → DeliversCascade t L names start (map grammar_of systems) old new Done
       turn_empty firings known =
-          come_to_end t L names start (map grammar_of systems) old mid now (grammar_of system ∷ others) come_to text all_done
+          come_to_end Whole Begun old Rest RestBegun mid come_to text all_done
           (empty_told t L names now firings (grammar_of system) others text
           (subst (λ (f : StageEnd). IsTold t L names system.name system.rules.items now f text) known told)
           (subst (IsStageEnd system.rules.items now L) known ends))
-          new all_written Done refl
+          new text_written Done refl
 
       -- the limit was met
       pub turn_over : e ≡ end.Over → DeliversCascade t L names start (map grammar_of systems) old new Limit
       turn_over known =
-          come_to_end t L names start (map grammar_of systems) old mid now (grammar_of system ∷ others) come_to text by_limit
+          come_to_end Whole Begun old Rest RestBegun mid come_to text by_limit
           (limit_told t L names now (grammar_of system) others text
           (subst (λ (f : StageEnd). IsTold t L names system.name system.rules.items now f text) known told)
           (subst (IsStageEnd system.rules.items now L) known ends))
-          new all_written Limit refl
+          new text_written Limit refl
 
       -- a graph was left, with which the others go on
-      pub turn_further : (left : QGraph) (firings : ℕ) → e ≡ end.Left left firings → HasCome t L names start (map grammar_of systems) old new left others
+      pub turn_further : (left : QGraph) (firings : ℕ) → e ≡ end.Left left firings → HasRun t L names start (map grammar_of systems) old new left others
       turn_further left firings known =
-          come_further t L names start (map grammar_of systems) old mid now (grammar_of system) others come_to left firings
-          (subst (IsStageEnd system.rules.items now L) known ends) text
-          (subst (λ (f : StageEnd). IsTold t L names system.name system.rules.items now f text) known told)
-          new all_written
+          let leaves = subst (IsStageEnd system.rules.items now L) known ends in
+          let is_told = subst (λ (f : StageEnd). IsTold t L names system.name system.rules.items now f text) known told in
+          come_further Whole Begun old Rest RestBegun mid come_to (Tells t L names left others) (Begins t L names left others) text
+          (λ more ending o. more_told t L names now left firings (grammar_of system) others text more ending is_told leaves o)
+          (λ more o. more_begun t L names now left firings (grammar_of system) others text more is_told leaves o)
+          new text_written
 
     pub turn_can_go_on : (left : QGraph) (firings : ℕ) → e ≡ end.Left left firings → L ≤ 1000000 → AreSystemsNamed (length names) systems
         → GrowsWithin now L e → MakesNoLabels system.rules.items now e → CanGoOn names left (length (drop (i + 1) systems))
@@ -238,7 +252,8 @@ module _ (t : Telling) (L : ℕ) (names : List (List ℕ)) (systems : List Syste
 
 -- the loop has come to its end
 pub at_end : (t : Telling) (L : ℕ) (names : List (List ℕ)) (systems : List System) (start : QGraph) (old mid : Option (List ℕ)) (now : QGraph) (i : ℕ) → length systems ≤ i
-    → HasCome t L names start (map grammar_of systems) old mid now (map grammar_of (drop i systems)) → DeliversCascade t L names start (map grammar_of systems) old mid Done
+    → HasRun t L names start (map grammar_of systems) old mid now (map grammar_of (drop i systems)) → DeliversCascade t L names start (map grammar_of systems) old mid Done
 at_end t L names systems start old mid now i past come =
-    all_run t L names start (map grammar_of systems) old mid now
-    (subst (λ (left : List System). HasCome t L names start (map grammar_of systems) old mid now (map grammar_of left)) (drop_of_length-le systems past) come) Done refl
+    all_written (Tells t L names start (map grammar_of systems)) (Begins t L names start (map grammar_of systems)) old (Tells t L names now []) (Begins t L names now []) mid
+    (subst (λ (left : List System). HasRun t L names start (map grammar_of systems) old mid now (map grammar_of left)) (drop_of_length-le systems past) come)
+    all_done (none_told t L names now) Done refl

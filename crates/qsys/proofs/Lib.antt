@@ -3,8 +3,13 @@ pub mod Calls
 pub mod Outcomes
 pub mod Tellings
 pub mod LevelsTold
+pub mod ReadingsTold
+pub mod ReadingLines
 pub mod GoingOn
 pub mod Starting
+pub mod PhrasesTold
+pub mod PhraseRuns
+pub mod PhraseTurns
 pub mod OneDefinition
 pub mod EachDefinition
 pub mod OptionLemmas

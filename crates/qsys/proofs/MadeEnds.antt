@@ -18,7 +18,7 @@ use Rattle.qs_deck.specs.MadeDecks.{made_grammar, made_graph, word_tree, words}
 use Rattle.qsys.specs.declared.job.Command.TheVariants as command
 use Rattle.qsys.specs.declared.job.Job.{Job}
 use Rattle.qsys.specs.declared.status.Status.{Status}
-use Rattle.qsys.specs.declared.status.Status.TheVariants.{Done, Limit, WriteFault, Memory}
+use Rattle.qsys.specs.declared.status.Status.TheVariants.{Done, Limit}
 use Rattle.qsys.specs.Answers.{WritesDefined, WritesProperPrefix, EndsAsDefined}
 use Rattle.qsys.specs.working.Cascading.{IsWritten}
 use Rattle.qsys.specs.working.Ends.{left_of, ending_of}
@@ -81,10 +81,7 @@ written_ends job bytes old new answer (Ok t) text status kind defined same (inl 
     (λ done. subst (EndsAsDefined job bytes old new) (sym done) (subst (WritesDefined job bytes old new) done all))
     (λ limited. subst (EndsAsDefined job bytes old new) (sym limited) (subst (WritesDefined job bytes old new) limited all))
     kind)
-written_ends job bytes old new answer (Ok t) text status kind defined same (inr (stopped, begun)) =
+written_ends job bytes old new answer (Ok t) text status kind defined same (inr (failed, begun)) =
     let front : WritesProperPrefix job bytes old new =
     record { text = text; status = status; defined = defined; written = subst (λ (b : List ℕ). AppendsProperPrefix old new b) same begun } in
-    ⊎_elim
-    (λ failed. subst (EndsAsDefined job bytes old new) (sym failed) front)
-    (λ wanting. subst (EndsAsDefined job bytes old new) (sym wanting) (inr front))
-    stopped
+    subst (EndsAsDefined job bytes old new) (sym failed) front

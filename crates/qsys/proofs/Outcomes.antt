@@ -1,11 +1,11 @@
 -- The outcome of a cascade, from what its first grammar leaves and the outcome of the others.
-use Rattle.std.proofs.Common.{◌≡◌, ℕ, ◌<◌, ◌≤◌, List, [], ◌∷◌, ◌++◌, length, map, refl, sym, ap, ◌∙◌, subst, arith, length-append, append-nil}
+use Rattle.std.proofs.Common.{◌≡◌, ℕ, ◌<◌, List, [], ◌∷◌, ◌++◌, length, map, refl, sym, ap, ◌∙◌, subst, arith, length-append, append-nil}
 use Rattle.qs_tree.specs.declared.cell.Label.{Label}
 use Rattle.qs_tree.specs.Lists.{◌∈◌}
 use Rattle.qs_tree.proofs.Members.{from_map}
 use Rattle.qs_pattern.specs.Rules.{Rule, IsAccepted}
 use Rattle.qs_graph.specs.Graphs.{QGraph, IsValid}
-use Rattle.qs_clean.specs.Cascades.{Cascade, Left, a_graph, no_arc, over, Ending, all_done, by_limit, no_more, limit, empty, goes_on}
+use Rattle.qs_clean.specs.Cascades.{Cascade, Left, a_graph, no_arc, over, Ending, all_done, by_limit, limit, empty, goes_on}
 use Rattle.qs_clean.proofs.CascadeExistence.{reached_valid, has_outcome, AllAccepted}
 use Rattle.qs_cascade.specs.declared.stage.StageEnd.TheVariants as end
 use Rattle.qs_cascade.specs.Stages.{LeavesGraph, IsStageEnd}

@@ -81,12 +81,13 @@ job_by_word f word is =
 pub no_job_read : (f : Found) (word : Text) → first_value f (codes "command") ≡ Some word → command_of word ≡ None → job_in (rows_of f) ≡ None
 no_job_read f word is_word none = job_by_word f (Some word) is_word ∙ ap (λ (o : Option Command). option_map (job_with (rows_of f)) o) none
 
-pub job_read : (f : Found) (word : Text) (command : Command) (limit workers size : ℕ) → first_value f (codes "command") ≡ Some word
+pub job_read : (f : Found) (word : Text) (command : Command) (limit workers size readings : ℕ) → first_value f (codes "command") ≡ Some word
     → command_of word ≡ Some command → limit ≡ number_in (rows_of f) (codes "limit")
     → workers ≡ number_in (rows_of f) (codes "workers") → size ≡ number_in (rows_of f) (codes "size")
-    → Some (record { command = command; limit = limit; workers = workers; size = size }) ≡ job_in (rows_of f)
-job_read f word command limit workers size is_word is_command l w s =
-    (λ i. Some (record { command = command; limit = l i; workers = w i; size = s i }))
+    → readings ≡ number_in (rows_of f) (codes "readings")
+    → Some (record { command = command; limit = limit; workers = workers; size = size; readings = readings }) ≡ job_in (rows_of f)
+job_read f word command limit workers size readings is_word is_command l w s r =
+    (λ i. Some (record { command = command; limit = l i; workers = w i; size = s i; readings = r i }))
     ∙ sym (job_by_word f (Some word) is_word ∙ ap (λ (o : Option Command). option_map (job_with (rows_of f)) o) is_command)
 
 -- clap's definitions of faults and of matches hold of the simple command

@@ -1,17 +1,16 @@
 -- What is told of a cascade, from what is told of its first grammar and of the others.
-use Rattle.std.proofs.Common.{◌≡◌, ℕ, ◌<◌, ◌≤◌, List, [], ◌∷◌, ◌++◌, length, map, Option, Some, None, refl, sym, ap, ◌∙◌, subst, inl, inr, ⊎_elim, arith, append_assoc, append-nil, length-append}
+use Rattle.std.proofs.Common.{◌≡◌, ℕ, ◌<◌, List, [], ◌∷◌, ◌++◌, length, Option, Some, None, refl, sym, ap, ◌∙◌, subst, inl, inr, ⊎_elim, arith, append_assoc, append-nil}
 use Rattle.std.specs.Prelude.{IfSome}
-use Rattle.qs_tree.specs.declared.cell.Label.{Label}
 use Rattle.qs_tree.specs.Lists.{◌∈◌}
 use Rattle.qs_pattern.specs.Rules.{Rule, IsAccepted}
 use Rattle.qs_pattern.specs.Named.{ArePatternsNamed}
 use Rattle.qs_graph.specs.Graphs.{QGraph, IsValid}
 use Rattle.qs_graphtext.specs.Texts.{AreArcsNamed}
-use Rattle.qs_canon.specs.Rounds.{Stage, Closes, ClosesWithin, Needs}
+use Rattle.qs_canon.specs.Rounds.{Stage, Closes, ClosesWithin}
 use Rattle.qs_canon.specs.Closures.{ClosureOf}
 use Rattle.qs_canon.proofs.Existence.{has_rounds}
 use Rattle.qs_canon.proofs.Progress.{closes_or_needs}
-use Rattle.qs_clean.specs.Cleaning.{Cleans, IsLeft}
+use Rattle.qs_clean.specs.Cleaning.{IsLeft}
 use Rattle.qs_clean.specs.Cascades.{Left, a_graph, no_arc, over, Ending, all_done, by_limit}
 use Rattle.qs_clean.specs.Cascades as plain
 use Rattle.qs_clean.proofs.CascadeExistence.{reached_left, reached_valid}
@@ -21,7 +20,7 @@ use Rattle.qs_firing.proofs.Ascending.{same_ascending}
 use Rattle.qs_cascade.specs.declared.stage.StageEnd.{StageEnd}
 use Rattle.qs_cascade.specs.declared.stage.StageEnd.TheVariants as end
 use Rattle.qs_cascade.specs.ClosureEnds.{IsClosureEnd, HasNoNewLabels}
-use Rattle.qs_cascade.specs.Stages.{LeavesGraph, IsStageEnd, IsEndBehind}
+use Rattle.qs_cascade.specs.Stages.{IsStageEnd, IsEndBehind}
 use Rattle.qs_explain.specs.Support.{SupportOf, IsSupport}
 use Rattle.qs_explain.specs.Texts.{support_text}
 use Rattle.qs_explain.proofs.Existence.{something_supported}
@@ -29,12 +28,12 @@ use Rattle.qs_deck.specs.Decks.{Grammar}
 use Rattle.qsys.specs.declared.telling.Telling.{Telling}
 use Rattle.qsys.specs.declared.telling.Telling.TheVariants as telling
 use Rattle.qsys.specs.Texts.{graph_block, empty_block, limit_block}
-use Rattle.qsys.specs.Outcomes.{block, IsOutcome}
-use Rattle.qsys.specs.Explanations.{Explains, no_more, limit, empty, goes_on}
-use Rattle.qsys.specs.working.Ends.{left_of}
-use Rattle.qsys.specs.working.Telling.{Tells, IsTold, IsBehind, IsSupportIn}
+use Rattle.qsys.specs.Outcomes.{block, BeginsOutcome, IsOutcome}
+use Rattle.qsys.specs.Outcomes as outcome
+use Rattle.qsys.specs.Explanations.{BeginsExplanation, Explains, no_block, block_first, no_more, limit, empty, goes_on}
+use Rattle.qsys.specs.working.Telling.{Begins, Tells, IsTold, IsBehind, IsSupported, IsSupportIn}
 use Rattle.qsys.specs.Cascading.{AreAccepted}
-use Rattle.qsys.proofs.Outcomes.{block_some, blocks_some, some_left, more_outcome, empty_outcome, limit_outcome, some_outcome, left_valid}
+use Rattle.qsys.proofs.Outcomes.{blocks_some, some_left, more_outcome, empty_outcome, limit_outcome, some_outcome, left_valid}
 
 -- of each stage that accepted rules reach something is supported
 abbrev Supported : Stage → Type 0
@@ -95,6 +94,15 @@ pub some_told : (t : Telling) (L : ℕ) (names : List (List ℕ)) (G : QGraph) (
 some_told telling.Blocks L names G grammars accepted valid = some_outcome L names G grammars accepted valid
 some_told telling.Supports L names G grammars accepted valid = some_explained L names grammars accepted G valid
 
+-- a block with its support, and what stands behind them
+supported_text : {G : QGraph} (L : ℕ) (names : List (List ℕ)) (H : QGraph) (firings : ℕ) (grammar : Grammar) (text more behind : List ℕ)
+    (supported : IsSupported L names grammar.rules G H firings behind) → text ≡ graph_block names grammar.name firings H ++ behind
+    → text ++ more ≡ graph_block names grammar.name (length supported.leaves.closure.done) H ++ (support_text names supported.leaves.closure supported.support ++ more)
+supported_text L names H firings grammar text more behind supported told =
+    ap (λ (bytes : List ℕ). bytes ++ more) told ∙ append_assoc (graph_block names grammar.name firings H) behind more
+    ∙ ap (λ (bytes : List ℕ). graph_block names grammar.name firings H ++ (bytes ++ more)) supported.text_is
+    ∙ ap (λ (n : ℕ). graph_block names grammar.name n H ++ (support_text names supported.leaves.closure supported.support ++ more)) supported.leaves.firings_are
+
 -- a grammar that leaves a graph, and then the others
 pub more_told : (t : Telling) (L : ℕ) (names : List (List ℕ)) (G H : QGraph) (firings : ℕ) (grammar : Grammar) (others : List Grammar) (text more : List ℕ) (ending : Ending)
     → IsTold t L names grammar.name grammar.rules G (end.Left H firings) text → IsStageEnd grammar.rules G L (end.Left H firings)
@@ -103,17 +111,25 @@ more_told telling.Blocks L names G H firings grammar others text more ending tol
     subst (λ (bytes : List ℕ). IsOutcome L names G (grammar ∷ others) (bytes ++ more) ending) (sym told)
     (more_outcome L names G H firings grammar others more ending is.0 is.1 o)
 more_told telling.Supports L names G H firings grammar others text more ending (behind, supported, told) is o =
-    subst (λ (bytes : List ℕ). Explains L names G (grammar ∷ others) bytes ending) (sym same)
+    subst (λ (bytes : List ℕ). Explains L names G (grammar ∷ others) bytes ending) (sym (supported_text L names H firings grammar text more behind supported told))
     (goes_on supported.leaves.closes supported.leaves.few supported.leaves.cleans is.1 supported.is o)
-  where
-    support : List ℕ
-    support = support_text names supported.leaves.closure supported.support
 
-    same : text ++ more ≡ graph_block names grammar.name (length supported.leaves.closure.done) H ++ (support ++ more)
-    same =
-        ap (λ (bytes : List ℕ). bytes ++ more) told ∙ append_assoc (graph_block names grammar.name firings H) behind more
-        ∙ ap (λ (bytes : List ℕ). graph_block names grammar.name firings H ++ (bytes ++ more)) supported.text_is
-        ∙ ap (λ (n : ℕ). graph_block names grammar.name n H ++ (support ++ more)) supported.leaves.firings_are
+-- the first blocks: none of them
+pub none_begun : (t : Telling) (L : ℕ) (names : List (List ℕ)) (G : QGraph) (grammar : Grammar) (others : List Grammar) → Begins t L names G (grammar ∷ others) []
+none_begun telling.Blocks L names G grammar others = outcome.no_block
+none_begun telling.Supports L names G grammar others = no_block
+
+-- that of a grammar that leaves a graph, and then the first ones of the others
+pub more_begun : (t : Telling) (L : ℕ) (names : List (List ℕ)) (G H : QGraph) (firings : ℕ) (grammar : Grammar) (others : List Grammar) (text more : List ℕ)
+    → IsTold t L names grammar.name grammar.rules G (end.Left H firings) text → IsStageEnd grammar.rules G L (end.Left H firings)
+    → Begins t L names H others more → Begins t L names G (grammar ∷ others) (text ++ more)
+more_begun telling.Blocks L names G H firings grammar others text more told is o =
+    subst (λ (bytes : List ℕ). BeginsOutcome L names G (grammar ∷ others) (bytes ++ more))
+    (sym (told ∙ ap (λ (n : ℕ). graph_block names grammar.name n H) is.0.firings_are))
+    (outcome.block_first is.0.closes is.0.few is.0.cleans is.1 o)
+more_begun telling.Supports L names G H firings grammar others text more (behind, supported, told) is o =
+    subst (BeginsExplanation L names G (grammar ∷ others)) (sym (supported_text L names H firings grammar text more behind supported told))
+    (block_first supported.leaves.closes supported.leaves.few supported.leaves.cleans is.1 supported.is o)
 
 -- a grammar that leaves no arc is the last one
 pub empty_told : (t : Telling) (L : ℕ) (names : List (List ℕ)) (G : QGraph) (firings : ℕ) (grammar : Grammar) (others : List Grammar) (text : List ℕ)

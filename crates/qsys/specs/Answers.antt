@@ -4,10 +4,19 @@ use Rattle.std.specs.Prelude.{◌≡◌, ◌⊎◌, ℕ, ◌<◌, List, ◌++◌
 use Rattle.std.specs.Io.KnownBytes.{append_known}
 use Rattle.qs_io.specs.Devices.{AppendsProperPrefix}
 use Rattle.qs_io.specs.Limits.{most_text_bytes}
+use Rattle.qs_graph.specs.Graphs.{QGraph}
+use Rattle.qs_tree.specs.declared.cell.Label.{Label}
+use Rattle.qs_deck.specs.Decks.{Grammar, IsDeckOf}
+use Rattle.qs_deck.specs.PhraseTexts.{IsPhraseText}
+use Rattle.qsys.specs.declared.job.Command.{Command}
+use Rattle.qsys.specs.declared.job.Command.TheVariants as command
 use Rattle.qsys.specs.declared.job.Job.{Job}
 use Rattle.qsys.specs.declared.status.Status.{Status}
 use Rattle.qsys.specs.declared.status.Status.TheVariants.{Done, Usage, Refused, Limit, ReadFault, TooLong, WriteFault}
 use Rattle.qsys.specs.declared.status.Status.TheVariants.{Memory}
+use Rattle.qsys.specs.Outcomes.{BeginsOutcome}
+use Rattle.qsys.specs.Explanations.{BeginsExplanation}
+use Rattle.qsys.specs.PhraseTexts.{BeginsPhrases}
 use Rattle.qsys.specs.Defined.{IsDefined}
 
 -- The whole text that is defined for these bytes, with this status, was written.
@@ -28,9 +37,42 @@ pub record WritesProperPrefix (job : Job) (bytes : List ℕ) (old new : Option (
 abbrev pub KeepsToDefined : Job → List ℕ → Option (List ℕ) → Option (List ℕ) → Type 0
 KeepsToDefined job bytes old new = (new ≡ old) ⊎ WritesProperPrefix job bytes old new
 
+-- The first blocks, fewer than all, of what this command writes for a deck block by block. The other commands write
+-- their text at once.
+abbrev pub BeginsDone : Command → ℕ → List (List ℕ) → List Grammar → QGraph → List ℕ → Type 0
+BeginsDone command.Run limit names grammars graph text = BeginsOutcome limit names graph grammars text
+BeginsDone command.Check limit names grammars graph text = ⊥
+BeginsDone command.Graph limit names grammars graph text = ⊥
+BeginsDone command.Made limit names grammars graph text = ⊥
+BeginsDone command.Explain limit names grammars graph text = BeginsExplanation limit names graph grammars text
+BeginsDone command.Levels limit names grammars graph text = ⊥
+BeginsDone command.Phrase limit names grammars graph text = ⊥
+
+-- The first blocks, fewer than all, of what is defined for a deck that these bytes mean, or for lines of words.
+pub data AreFirstBlocks (job : Job) (bytes text : List ℕ) : Type 0 where
+  of_deck : (version : ℕ) (names : List (List ℕ)) (grammars : List Grammar) (graph : QGraph)
+      → IsDeckOf bytes version names grammars graph → BeginsDone job.command job.limit names grammars graph text
+      → AreFirstBlocks job bytes text
+  of_phrases : (version : ℕ) (names : List (List ℕ)) (grammars : List Grammar) (lines : List (List Label))
+      → job.command ≡ command.Phrase → IsPhraseText bytes version names grammars lines
+      → BeginsPhrases job.limit job.readings names grammars 1 lines text → AreFirstBlocks job bytes text
+
+-- The first blocks were written, each of them whole, and fewer than all; so it is a proper prefix of the text that is
+-- defined.
+pub record WritesFirstBlocks (job : Job) (bytes : List ℕ) (old new : Option (List ℕ)) : Type 0 where
+  pub front : List ℕ
+  pub are_first : AreFirstBlocks job bytes front
+  pub written : new ≡ append_known old front
+  pub prefix : WritesProperPrefix job bytes old new
+
+-- Nothing was written, or the first blocks. So where the command writes its text at once, or the bytes are refused,
+-- nothing was.
+abbrev pub KeepsToBlocks : Job → List ℕ → Option (List ℕ) → Option (List ℕ) → Type 0
+KeepsToBlocks job bytes old new = (new ≡ old) ⊎ WritesFirstBlocks job bytes old new
+
 -- What was written, by the answer, where these bytes were left in the source: the whole text that is defined, with its
 -- status; or nothing, where the source failed or the bytes are too many; or a proper prefix, where the sink failed; or
--- nothing or a proper prefix, where memory was wanting. No other answer comes.
+-- nothing or the first blocks, fewer than all, where memory was wanting. No other answer comes.
 abbrev pub EndsAsDefined : Job → List ℕ → Option (List ℕ) → Option (List ℕ) → Status → Type 0
 EndsAsDefined job bytes old new Done = WritesDefined job bytes old new Done
 EndsAsDefined job bytes old new Refused = WritesDefined job bytes old new Refused
@@ -38,7 +80,7 @@ EndsAsDefined job bytes old new Limit = WritesDefined job bytes old new Limit
 EndsAsDefined job bytes old new ReadFault = new ≡ old
 EndsAsDefined job bytes old new TooLong = (most_text_bytes < length bytes) × (new ≡ old)
 EndsAsDefined job bytes old new WriteFault = WritesProperPrefix job bytes old new
-EndsAsDefined job bytes old new Memory = KeepsToDefined job bytes old new
+EndsAsDefined job bytes old new Memory = KeepsToBlocks job bytes old new
 EndsAsDefined job bytes old new Usage = ⊥
 
 -- The answers with which a run ends when it has written its whole text.

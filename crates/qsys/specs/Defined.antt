@@ -1,12 +1,15 @@
 -- What a job is defined to write, for the bytes that it read where it reads, and with which status it is to end. This
 -- project's own.
 use Rattle.std.specs.Prelude.{◌≡◌, ℕ, ◌^◌, List, [], ◌∷◌, length}
+use Rattle.qs_tree.specs.declared.cell.Label.{Label}
 use Rattle.qs_lex.specs.declared.refusal.Refusal.{Refusal}
+use Rattle.qs_lex.specs.Refusals.{IsRefusedFor}
 use Rattle.qs_graph.specs.Graphs.{QGraph}
 use Rattle.qs_graphtext.specs.Texts.{graph_text}
 use Rattle.qs_clean.specs.Cascades.{Cascade, Left, a_graph, no_arc, over, Ending, all_done, by_limit}
 use Rattle.qs_deck.specs.Decks.{Grammar, IsDeckOf}
 use Rattle.qs_deck.specs.Refusals.{IsRefusalOf}
+use Rattle.qs_deck.specs.PhraseTexts.{IsPhraseText, IsPhraseFault}
 use Rattle.qs_deck.specs.Texts.{deck_text}
 use Rattle.qs_deck.specs.MadeDecks.{made_grammar, made_graph}
 use Rattle.qsys.specs.declared.job.Command.{Command}
@@ -18,6 +21,7 @@ use Rattle.qsys.specs.Texts.{refusal_line, summary_line, limit_line}
 use Rattle.qsys.specs.Outcomes.{IsOutcome}
 use Rattle.qsys.specs.Explanations.{Explains}
 use Rattle.qsys.specs.LevelTexts.{TellsLevels}
+use Rattle.qsys.specs.PhraseTexts.{TellsPhrases}
 
 -- A cascade that met the limit gives the status Limit, any other one Done.
 abbrev pub status_of : Ending → Status
@@ -32,6 +36,17 @@ Reads command.Graph = Unit {0}
 Reads command.Made = ⊥
 Reads command.Explain = Unit {0}
 Reads command.Levels = Unit {0}
+Reads command.Phrase = Unit {0}
+
+-- All that read read a deck, but the command `phrase`, which reads a phrase text.
+abbrev pub ReadsDeck : Command → Type 0
+ReadsDeck command.Run = Unit {0}
+ReadsDeck command.Check = Unit {0}
+ReadsDeck command.Graph = Unit {0}
+ReadsDeck command.Made = ⊥
+ReadsDeck command.Explain = Unit {0}
+ReadsDeck command.Levels = Unit {0}
+ReadsDeck command.Phrase = ⊥
 
 -- For a text that isn't accepted the line is defined that tells its first fault, whatever is to be done with it.
 pub record IsRefusal (bytes text : List ℕ) (status : Status) : Type 0 where
@@ -79,6 +94,7 @@ IsDone command.Made limit version names grammars graph text status = ⊥
 IsDone command.Explain limit version names grammars graph text status =
     IsExplainOf limit names grammars graph text status
 IsDone command.Levels limit version names grammars graph text status = IsLevelsOf names grammars text status
+IsDone command.Phrase limit version names grammars graph text status = ⊥
 
 -- With an accepted text the command is done.
 pub record IsAnswer (job : Job) (bytes text : List ℕ) (status : Status) : Type 0 where
@@ -103,9 +119,32 @@ pub record IsMadeOf (limit size : ℕ) (text : List ℕ) (status : Status) : Typ
   pub text_is : text ≡ summary limit size left
   pub status_is : status ≡ status_of ending
 
+-- In the same way of a phrase text: of one that means no grammars and lines of words its first fault is told.
+pub record IsPhraseRefusal (bytes text : List ℕ) (status : Status) : Type 0 where
+  pub refusal : Refusal
+  pub refused : IsRefusedFor IsPhraseFault bytes refusal
+  pub text_is : text ≡ refusal_line refusal
+  pub status_is : status ≡ Refused
+
+-- With one that is accepted the blocks of its lines are written.
+pub record IsPhraseAnswer (limit most : ℕ) (bytes text : List ℕ) (status : Status) : Type 0 where
+  pub version : ℕ
+  pub names : List (List ℕ)
+  pub grammars : List Grammar
+  pub lines : List (List Label)
+  pub phrases : IsPhraseText bytes version names grammars lines
+  pub ending : Ending
+  pub tells : TellsPhrases limit most names grammars 1 lines text ending
+  pub status_is : status ≡ status_of ending
+
 -- For this job and these bytes this text is defined, with this status. Where the job reads, the bytes are a text that
--- is refused, or mean a deck, with which the command is done; `made` doesn't depend on them.
+-- is refused, or mean a deck, with which the command is done, or, for `phrase`, grammars and lines of words; `made`
+-- doesn't depend on them.
 pub data IsDefined (job : Job) (bytes text : List ℕ) (status : Status) : Type 0 where
-  of_refused : Reads job.command → IsRefusal bytes text status → IsDefined job bytes text status
+  of_refused : ReadsDeck job.command → IsRefusal bytes text status → IsDefined job bytes text status
   of_deck : IsAnswer job bytes text status → IsDefined job bytes text status
   of_made : job.command ≡ command.Made → IsMadeOf job.limit job.size text status → IsDefined job bytes text status
+  of_refused_phrases : job.command ≡ command.Phrase → IsPhraseRefusal bytes text status
+      → IsDefined job bytes text status
+  of_phrases : job.command ≡ command.Phrase → IsPhraseAnswer job.limit job.readings bytes text status
+      → IsDefined job bytes text status

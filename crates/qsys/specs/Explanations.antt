@@ -24,3 +24,14 @@ pub data Explains (L : ℕ) (names : List (List ℕ)) : QGraph → List Grammar 
       → 0 < length H.arcs → IsSupport C support → Explains L names H grammars rest end
       → Explains L names G (grammar ∷ grammars)
       (graph_block names grammar.name (length C.done) H ++ (support_text names C support ++ rest)) end
+
+-- This text is the first blocks of such an explanation, each with all the lines of its support: a whole number of
+-- them, fewer than all, possibly none.
+pub data BeginsExplanation (L : ℕ) (names : List (List ℕ)) : QGraph → List Grammar → List ℕ → Type 0 where
+  no_block : {G : QGraph} {grammar : Grammar} {grammars : List Grammar}
+      → BeginsExplanation L names G (grammar ∷ grammars) []
+  block_first : {G H : QGraph} {grammar : Grammar} {grammars : List Grammar} {C : Stage} {support : SupportOf}
+      {rest : List ℕ} → Closes grammar.rules G C → length C.done ≤ L → Cleans C H
+      → 0 < length H.arcs → IsSupport C support → BeginsExplanation L names H grammars rest
+      → BeginsExplanation L names G (grammar ∷ grammars)
+      (graph_block names grammar.name (length C.done) H ++ (support_text names C support ++ rest))

@@ -2,6 +2,7 @@ pub mod Texts
 pub mod Outcomes
 pub mod Explanations
 pub mod LevelTexts
+pub mod PhraseTexts
 pub mod Pieces
 pub mod Defined
 pub mod Limits

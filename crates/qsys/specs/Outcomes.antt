@@ -1,8 +1,10 @@
 -- The outcome of a cascade: the text that is written for it, and how it ends. The chaining is Colmerauer's (1970), the
 -- text this project's own.
-use Rattle.std.specs.Prelude.{◌≡◌, ℕ, List, [], ◌∷◌, ◌++◌, map}
+use Rattle.std.specs.Prelude.{◌≡◌, ◌≤◌, ◌<◌, ℕ, List, [], ◌∷◌, ◌++◌, length, map}
 use Rattle.qs_tree.specs.declared.cell.Label.{Label}
 use Rattle.qs_graph.specs.Graphs.{QGraph}
+use Rattle.qs_canon.specs.Rounds.{Stage, Closes}
+use Rattle.qs_clean.specs.Cleaning.{Cleans}
 use Rattle.qs_clean.specs.Cascades.{Cascade, Left, a_graph, no_arc, over, Ending}
 use Rattle.qs_deck.specs.Decks.{Grammar}
 use Rattle.qsys.specs.Texts.{graph_block, empty_block, limit_block}
@@ -26,3 +28,13 @@ pub record IsOutcome (limit : ℕ) (names : List (List ℕ)) (graph : QGraph) (g
   pub lefts : List Left
   pub cascade : Cascade limit graph (map (λ grammar. grammar.rules) grammars) lefts ending
   pub text_is : text ≡ blocks limit names grammars lefts
+
+-- This text is the first blocks of the outcome of the cascade of these grammars from a graph: a whole number of them,
+-- fewer than all, possibly none. A grammar that is run has a block, so there is one more as long as a grammar is left.
+pub data BeginsOutcome (L : ℕ) (names : List (List ℕ)) : QGraph → List Grammar → List ℕ → Type 0 where
+  no_block : {G : QGraph} {grammar : Grammar} {grammars : List Grammar}
+      → BeginsOutcome L names G (grammar ∷ grammars) []
+  block_first : {G H : QGraph} {grammar : Grammar} {grammars : List Grammar} {C : Stage} {rest : List ℕ}
+      → Closes grammar.rules G C → length C.done ≤ L → Cleans C H → 0 < length H.arcs
+      → BeginsOutcome L names H grammars rest
+      → BeginsOutcome L names G (grammar ∷ grammars) (graph_block names grammar.name (length C.done) H ++ rest)

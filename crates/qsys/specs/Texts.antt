@@ -52,4 +52,6 @@ refusal_line refusal =
 
 -- What is written for words that give no job.
 abbrev pub usage_line : List ℕ
-usage_line = line (codes "usage: qsys run|check|graph|made|explain|levels [--limit N] [--workers N] [--size N]")
+usage_line =
+    line
+    (codes "usage: qsys run|check|graph|made|explain|levels|phrase [--limit N] [--workers N] [--size N] [--readings N]")

@@ -13,21 +13,24 @@ use Rattle.clap.specs.Simple.{on_top}
 use Rattle.clap.specs.declared.builder.ArgAction.TheVariants.{Set}
 use Rattle.clap.specs.declared.builder.value_parser.ValueParser.TheVariants as parser
 use Rattle.qsys.specs.declared.job.Command.{Command}
-use Rattle.qsys.specs.declared.job.Command.TheVariants.{Run, Check, Graph, Made, Explain, Levels}
+use Rattle.qsys.specs.declared.job.Command.TheVariants.{Run, Check, Graph, Made, Explain, Levels, Phrase}
 use Rattle.qsys.specs.declared.job.Job.{Job}
 use Rattle.qsys.specs.Limits.{most_limit, most_workers as most_of_workers, most_size as most_of_size}
+use Rattle.qsys.specs.Limits.{most_readings as most_of_readings}
 
 -- A limit is a number from 1 to 1,000,000.
 pub record IsLimit (n : ℕ) : Type 0 where
   pub low : 1 ≤ n
   pub high : n ≤ most_limit
 
--- The numbers of a job are in their ranges: a limit, 1 to 32 workers, and a size from 0 to 13.
+-- The numbers of a job are in their ranges: a limit, 1 to 32 workers, a size from 0 to 13, and 1 to 1,000 readings.
 pub record IsInRange (job : Job) : Type 0 where
   pub limit : IsLimit job.limit
   pub least_workers : 1 ≤ job.workers
   pub most_workers : job.workers ≤ most_of_workers
   pub most_size : job.size ≤ most_of_size
+  pub least_readings : 1 ≤ job.readings
+  pub most_readings : job.readings ≤ most_of_readings
 
 -- An argument that is one word, without an option before it, and has to be there.
 abbrev pub required_word : List ℕ → Rule
@@ -48,14 +51,16 @@ abbrev pub without_program : App → App
 without_program = on_top (λ shape. record shape { no_binary_name = true })
 
 -- The simple command: the command word, and the options `--limit` (from 1 to 1,000,000, else 10,000), `--workers` (from
--- 1 to 32, else 4) and `--size` (from 0 to 13, else 8).
+-- 1 to 32, else 4), `--size` (from 0 to 13, else 8) and `--readings` (from 1 to 1,000, else 10).
 unfoldable pub simple_command : App
 simple_command =
     with_rule
+    (with_rule
     (with_rule (with_rule (with_rule (without_program (new_app (codes "qsys"))) (required_word (codes "command")))
     (number_option (codes "limit") 1 most_limit (codes "10000")))
     (number_option (codes "workers") 1 most_of_workers (codes "4")))
-    (number_option (codes "size") 0 most_of_size (codes "8"))
+    (number_option (codes "size") 0 most_of_size (codes "8")))
+    (number_option (codes "readings") 1 most_of_readings (codes "10"))
 
 -- The command that a command word names: a line for each one that is known.
 abbrev pub command_of : List ℕ → Option Command
@@ -66,6 +71,7 @@ command_of word =
     else if bytes_eq word (codes "made") then Some Made
     else if bytes_eq word (codes "explain") then Some Explain
     else if bytes_eq word (codes "levels") then Some Levels
+    else if bytes_eq word (codes "phrase") then Some Phrase
     else None
 
 -- The number that the option of this name has among the arguments, in decimal.
@@ -79,6 +85,7 @@ job_with arguments command = record {
   limit = number_in arguments (codes "limit");
   workers = number_in arguments (codes "workers");
   size = number_in arguments (codes "size");
+  readings = number_in arguments (codes "readings");
 }
 
 -- The job of these arguments: none where the command word isn't one that is known.

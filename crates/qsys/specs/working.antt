@@ -4,3 +4,4 @@ pub mod Named
 pub mod Telling
 pub mod Options
 pub mod Cascading
+pub mod Phrasing

@@ -20,9 +20,9 @@ use std::alloc::Global;
 /// whole and at once, when it has ended. A grammar that leaves no arc, or that needs more firings than the limit,
 /// is the last one.
 ///
-/// `Done` and `Limit` come where the whole text was written; `WriteFault` only where the sink's count of faults rose,
-/// and `Memory` where memory was wanting; a proper prefix of the text was written then. With every answer but
-/// `WriteFault` that count stays as it was.
+/// `Done` and `Limit` come where the whole text was written; `WriteFault` only where the sink's count of faults rose; a
+/// proper prefix of the text was written then. `Memory` comes where memory was wanting; the first blocks were written
+/// then, each of them whole, and fewer than all. With every answer but `WriteFault` that count stays as it was.
 pub fn cascade<K: Sink>(
     alloc: Global,
     teller: &Teller<'_>,

@@ -10,7 +10,7 @@ ghost use Rattle.qsys.specs.Outcomes.{IsOutcome};
 ghost use Rattle.qsys.specs.Defined.{IsDefined};
 
 use qs_clean::laws::one_cascade;
-use qs_deck::laws::one_answer;
+use qs_deck::laws::{one_answer, one_phrase_text};
 
 /// A cascade has one text and one ending.
 pub fn one_outcome()
@@ -29,6 +29,7 @@ pub fn one_definition()
         → IsDefined job bytes t s → IsDefined job bytes u r → (t ≡ u) × (s ≡ r) }
 {
     one_answer();
+    one_phrase_text();
     one_cascade();
     one_outcome();
 }

@@ -15,14 +15,18 @@ pub enum Command {
     Explain,
     /// Read a deck, and write for each grammar the levels that bound its rounds on every graph.
     Levels,
+    /// Read grammars and lines of words, run the grammars on each line, and write the readings of what they leave.
+    Phrase,
 }
 
 /// A job: what is to be done, the most firings that a grammar may need, from 1 to 1,000,000, how many workers do it,
-/// from 1 to 32, and the size of a deck that is made, from 0 to 13.
+/// from 1 to 32, the size of a deck that is made, from 0 to 13, and how many readings of a line of words are written at
+/// most, from 1 to 1,000.
 #[derive(Clone, Copy, Debug, PartialEq, Eq)]
 pub struct Job {
     pub command: Command,
     pub limit: u32,
     pub workers: u32,
     pub size: u32,
+    pub readings: u32,
 }

@@ -29,9 +29,9 @@ pub struct EndedRun<R, W> {
 ///
 /// Whatever bytes the reads of this run gave, from the first to the last, the bytes that its writes took, from the
 /// first to the last, are exactly the text that is defined for the job and these bytes, with its status; or a proper
-/// prefix of it where the writer failed; or nothing or a proper prefix where memory was wanting; or nothing where the
-/// reader failed or gave more bytes than a text may have. Where a whole text was written, the last read said that the
-/// input has ended, and neither the reader nor the writer failed.
+/// prefix of it where the writer failed; or nothing or its first blocks, each of them whole, where memory was wanting;
+/// or nothing where the reader failed or gave more bytes than a text may have. Where a whole text was written, the last
+/// read said that the input has ended, and neither the reader nor the writer failed.
 pub fn run_over<R: Read, W: Write>(
     alloc: Global,
     words: &[String],

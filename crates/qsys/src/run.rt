@@ -6,7 +6,7 @@ ghost use Rattle.qs_io.specs.Limits.{most_text_bytes};
 ghost use Rattle.qs_deck.specs.Decks.{grammar_of, IsDeckOf};
 ghost use Rattle.qs_deck.specs.Texts.{deck_text};
 ghost use Rattle.qsys.specs.Words.{IsLimit};
-ghost use Rattle.qsys.specs.Defined.{Reads};
+ghost use Rattle.qsys.specs.Defined.{Reads, ReadsDeck};
 ghost use Rattle.qsys.specs.Answers.{EndsAsDefined, IsOfWholeText};
 ghost use Rattle.qsys.specs.Calls.{DoesJob, HasCause, TellsWriteFaults};
 ghost use Rattle.qsys.specs.working.Cascading.{DeliversCascade, IsAnswered, IsWritten};
@@ -14,11 +14,13 @@ ghost use Rattle.qsys.specs.working.Cascading.{DeliversCascade, IsAnswered, IsWr
 use crate::cascade::cascade;
 use crate::job::{Command, Job};
 use crate::levels::levels_text;
+use crate::phrases::phrases;
+use crate::phrasing::PhraseTeller;
 use crate::refusals::refusal_line;
 use crate::status::Status;
 use crate::summaries::{made_end, status_of, summary};
 use crate::telling::{Teller, Telling};
-use qs_deck::{Deck, DeckEnd, read_deck, write_deck};
+use qs_deck::{Deck, DeckEnd, read_deck, read_phrases, write_deck};
 use qs_graphtext::write_graph;
 use qs_io::{ReadEnd, Sink, Source, read_all, write_all};
 use std::alloc::{AllocError, Global};
@@ -87,11 +89,11 @@ fn run_deck<K: Sink>(
     cascade(alloc, &teller, &systems, graph, sink)
 }
 
-/// Does the job with the text that was read. `Memory` comes where memory was wanting: before anything was written, or
-/// with a proper prefix of the text that is defined.
-fn answer<K: Sink>(alloc: Global, job: &Job, bytes: &[u8], sink: &mut K) -> Status
+/// Does the job, which reads a deck, with the text that was read. `Memory` comes where memory was wanting: before
+/// anything was written, or with the first blocks of the text that is defined, fewer than all.
+fn answer_deck<K: Sink>(alloc: Global, job: &Job, bytes: &[u8], sink: &mut K) -> Status
     requires limit { IsLimit job.now.limit }
-    requires reads { Reads job.now.command }
+    requires reads { ReadsDeck job.now.command }
     requires bytes { length bytes.now ≤ most_text_bytes }
     ensures answered { IsAnswered job.now bytes.now (K.written sink.old) (K.written sink.new) result }
     ensures kinds { IsOfWholeText result ⊎ (result ≡ Status.WriteFault) ⊎ (result ≡ Status.Memory) }
@@ -116,7 +118,50 @@ fn answer<K: Sink>(alloc: Global, job: &Job, bytes: &[u8], sink: &mut K) -> Stat
                 Status::Done,
             )
         }
-        Command::Made => unreachable!(),
+        Command::Made | Command::Phrase => unreachable!(),
+    }
+}
+
+/// Runs the grammars of a phrase text on its lines of words, with the text that was read. `Memory` comes where memory
+/// was wanting: before anything was written, or with the first blocks of the text that is defined, fewer than all.
+fn answer_phrases<K: Sink>(alloc: Global, job: &Job, bytes: &[u8], sink: &mut K) -> Status
+    requires limit { IsLimit job.now.limit }
+    requires readings { 1 ≤ job.now.readings }
+    requires command { job.now.command ≡ Command.Phrase }
+    requires bytes { length bytes.now ≤ most_text_bytes }
+    ensures answered { IsAnswered job.now bytes.now (K.written sink.old) (K.written sink.new) result }
+    ensures kinds { IsOfWholeText result ⊎ (result ≡ Status.WriteFault) ⊎ (result ≡ Status.Memory) }
+    ensures writes { TellsWriteFaults (K.faults sink.old) (K.faults sink.new) result }
+{
+    let read = match read_phrases(alloc, bytes) {
+        Ok(read) => read,
+        Err(DeckEnd::Refused(refusal)) => {
+            return write_text(sink, refusal_line(alloc, &refusal), Status::Refused);
+        }
+        Err(DeckEnd::Memory) => return Status::Memory,
+    };
+    let teller = PhraseTeller {
+        names: &read.names,
+        systems: &read.systems,
+        limit: job.limit,
+        readings: job.readings,
+    };
+    phrases(alloc, &teller, &read.lines, sink)
+}
+
+/// Does the job with the text that was read.
+fn answer<K: Sink>(alloc: Global, job: &Job, bytes: &[u8], sink: &mut K) -> Status
+    requires limit { IsLimit job.now.limit }
+    requires readings { 1 ≤ job.now.readings }
+    requires reads { Reads job.now.command }
+    requires bytes { length bytes.now ≤ most_text_bytes }
+    ensures answered { IsAnswered job.now bytes.now (K.written sink.old) (K.written sink.new) result }
+    ensures kinds { IsOfWholeText result ⊎ (result ≡ Status.WriteFault) ⊎ (result ≡ Status.Memory) }
+    ensures writes { TellsWriteFaults (K.faults sink.old) (K.faults sink.new) result }
+{
+    match job.command {
+        Command::Phrase => answer_phrases(alloc, job, bytes, sink),
+        _ => answer_deck(alloc, job, bytes, sink),
     }
 }
 
@@ -138,8 +183,8 @@ fn tell_made<K: Sink>(alloc: Global, job: &Job, sink: &mut K) -> Status
     write_text(sink, summary(alloc, job.size, job.limit, &end), status)
 }
 
-/// Reads the source to its end and the deck that it means, and writes to the sink what is defined; `run_still` tells
-/// the answers.
+/// Reads the source to its end and what its bytes mean, a deck or a phrase text, and writes to the sink what is
+/// defined; `run_still` tells the answers.
 fn read_and_answer<S: Source, K: Sink>(
     alloc: Global,
     job: &Job,
@@ -147,6 +192,7 @@ fn read_and_answer<S: Source, K: Sink>(
     sink: &mut K,
 ) -> Status
     requires limit { IsLimit job.now.limit }
+    requires readings { 1 ≤ job.now.readings }
     requires reads { Reads job.now.command }
 
     ensures headline { (bytes : List ℕ) → S.left source.old ≡ Some bytes
@@ -165,18 +211,23 @@ fn read_and_answer<S: Source, K: Sink>(
 }
 
 /// Does the job: reads the source to its end and the deck that it means, and writes to the sink what is defined; or
-/// makes a deck, and reads nothing. The limit is from 1 to 1,000,000 and the size from 0 to 13. One worker does it,
-/// whatever the job says of workers. It always returns, and never waits.
+/// makes a deck, and reads nothing. The limit is from 1 to 1,000,000, the size from 0 to 13, and the number of readings
+/// from 1 on. One worker does it, whatever the job says of workers. It always returns, and never waits.
 ///
-/// - `run` runs the grammars one after another and writes what each leaves, when it has ended; `check` writes the deck
-///   and `graph` its graph. For a text that isn't accepted its first fault is told. `made` runs the made deck of the
-///   job's size, and tells in one line what is left; `Refused`, `ReadFault` and `TooLong` don't come for it.
+/// - `run` runs the grammars one after another and writes what each leaves, when it has ended, and `explain` tells
+///   behind each graph that is left where its arcs come from; `levels` tells of each grammar the levels that bound its
+///   rounds; `check` writes the deck and `graph` its graph. `phrase` reads grammars and lines of words, runs the
+///   grammars on each line, and writes the first readings of what they leave, as many as the job says. For a text that
+///   isn't accepted its first fault is told. `made` runs the made deck of the job's size, and tells in one line what is
+///   left; `Refused`, `ReadFault` and `TooLong` don't come for it.
 /// - `Done`, `Refused` and `Limit` come where the whole text that is defined was written, and, but for `made`, the
-///   source was read to its end.
+///   source was read to its end. `Limit` comes where a grammar met the limit, for `phrase` on some line.
 /// - `ReadFault` comes only where the source's count of faults rose in this call, and `TooLong` exactly where
 ///   4,194,305 bytes were taken; nothing is written then.
 /// - `WriteFault` comes only where the sink's count of faults rose in this call; a proper prefix of the text that is
-///   defined is written then. `Memory` comes where memory was wanting; nothing is written then, or a proper prefix.
+///   defined is written then. `Memory` comes where memory was wanting; nothing is written then, or, for `run`,
+///   `explain` and `phrase`, the first blocks of the text, a whole number of them, with all their lines, and fewer than
+///   all.
 /// - With every answer but `ReadFault` the source's count of faults stays as it was, and with every answer but
 ///   `WriteFault` the sink's: so where a whole text was written, no fault was counted.
 pub fn run_still<S: Source, K: Sink>(
@@ -187,9 +238,10 @@ pub fn run_still<S: Source, K: Sink>(
 ) -> Status
     requires limit { IsLimit job.now.limit }
     requires size { job.now.size ≤ 13 }
+    requires readings { 1 ≤ job.now.readings }
 
     // Where the source tells its bytes, exactly what is defined for them is written; only too many bytes, a fault that
-    // is counted or want of memory stops it, at a prefix.
+    // is counted or want of memory stops it, at a prefix, and want of memory between two blocks.
     ensures headline { (bytes : List ℕ) → S.left source.old ≡ Some bytes
         → EndsAsDefined job.now bytes (K.written sink.old) (K.written sink.new) result }
     // The same of the bytes that the reads of this call gave; with no fault and not too many bytes, only memory can be
@@ -200,9 +252,12 @@ pub fn run_still<S: Source, K: Sink>(
     ensures not_usage { result ≢ Status.Usage }
 {
     match job.command {
-        Command::Run | Command::Check | Command::Graph | Command::Explain | Command::Levels => {
-            read_and_answer(alloc, job, source, sink)
-        }
+        Command::Run
+        | Command::Check
+        | Command::Graph
+        | Command::Explain
+        | Command::Levels
+        | Command::Phrase => read_and_answer(alloc, job, source, sink),
         Command::Made => tell_made(alloc, job, sink),
     }
 }

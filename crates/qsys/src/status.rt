@@ -23,7 +23,7 @@ pub enum Status {
     TooLong = 5,
     /// The sink failed; a proper prefix of the text was written.
     WriteFault = 6,
-    /// There was no memory; nothing was written, or a proper prefix of the text.
+    /// There was no memory; nothing was written, or the first blocks of the text, each of them whole, fewer than all.
     Memory = 7,
 }
 

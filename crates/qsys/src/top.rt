@@ -15,7 +15,7 @@ use std::alloc::Global;
 
 /// What is written for words that give no job.
 const USAGE: &[u8] =
-    b"usage: qsys run|check|graph|made|explain|levels [--limit N] [--workers N] [--size N]\n";
+    b"usage: qsys run|check|graph|made|explain|levels|phrase [--limit N] [--workers N] [--size N] [--readings N]\n";
 
 /// Writes the usage line. `WriteFault` comes only where the sink failed; then a proper prefix of the line was written.
 pub fn write_usage<K: Sink>(sink: &mut K) -> Status
@@ -41,7 +41,7 @@ pub fn qsys<S: Source, K: Sink>(
     sink: &mut K,
 ) -> Status
     // Where the source tells its bytes, exactly what is defined for them is written; only too many bytes, a fault that
-    // is counted or want of memory stops it, at a prefix.
+    // is counted or want of memory stops it, at a prefix, and want of memory between two blocks.
     ensures headline { (job : Job) → IsJobOf (map string_bytes words.now) job
         → (bytes : List ℕ) → S.left source.old ≡ Some bytes
         → EndsAsDefined job bytes (K.written sink.old) (K.written sink.new) result }

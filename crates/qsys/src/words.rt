@@ -71,7 +71,8 @@ fn simple_command<'a>(alloc: Global) -> Result<clap::Command<'a>, AllocError>
         .arg(required_word(alloc, "command"))?
         .arg(number_option(alloc, "limit", 1, 1_000_000, "10000"))?
         .arg(number_option(alloc, "workers", 1, 32, "4"))?
-        .arg(number_option(alloc, "size", 0, 13, "8"))
+        .arg(number_option(alloc, "size", 0, 13, "8"))?
+        .arg(number_option(alloc, "readings", 1, 1_000, "10"))
 }
 
 /// The command that a command word names, where it is one that is known.
@@ -85,6 +86,7 @@ fn command_of(word: &str) -> Option<Command>
         "made" => Some(Command::Made),
         "explain" => Some(Command::Explain),
         "levels" => Some(Command::Levels),
+        "phrase" => Some(Command::Phrase),
         _ => None,
     }
 }
@@ -111,13 +113,15 @@ fn job_in(matches: &ArgMatches<'_>) -> Option<Job>
         limit: number_in(matches, "limit"),
         workers: number_in(matches, "workers"),
         size: number_in(matches, "size"),
+        readings: number_in(matches, "readings"),
     })
 }
 
 /// Reads the words, those behind the program's name: a command word that is known, with the options `--limit` (from 1
-/// to 1,000,000, else 10,000), `--workers` (from 1 to 32, else 4) and `--size` (from 0 to 13, else 8) anywhere. `Usage`
-/// comes exactly where `clap` refuses the words, which it does for `--help` too, or the command word isn't known;
-/// `Memory` comes where memory was wanting, and says nothing of the words.
+/// to 1,000,000, else 10,000), `--workers` (from 1 to 32, else 4), `--size` (from 0 to 13, else 8) and `--readings`
+/// (from 1 to 1,000, else 10) anywhere. `Usage` comes exactly where `clap` refuses the words, which it does for
+/// `--help` too, or the command word isn't known; `Memory` comes where memory was wanting, and says nothing of the
+/// words.
 pub fn read_words(alloc: Global, words: &[String]) -> Result<Job, WordsEnd>
     ensures job { IfOk result (λ job. IsJobOf (map string_bytes words.now) job) }
     ensures range { IfOk result IsInRange }

@@ -13,14 +13,15 @@ use Rattle.qsys.specs.declared.status.Status.{Status}
 use Rattle.qsys.specs.declared.status.Status.TheVariants.{WriteFault, Memory}
 use Rattle.qsys.specs.declared.telling.Telling.{Telling}
 use Rattle.qsys.specs.Defined.{IsDefined, status_of}
-use Rattle.qsys.specs.working.Telling.{Tells}
+use Rattle.qsys.specs.Answers.{KeepsToBlocks}
+use Rattle.qsys.specs.working.Telling.{Begins, Tells}
 
 -- Of a text that is to be written with this status, all was written, and the answer is the status; or a proper
--- prefix, and the answer is that the sink failed or that memory was wanting.
+-- prefix, and the answer is that the sink failed.
 abbrev pub Delivers : Option (List ℕ) → Option (List ℕ) → List ℕ → Status → Status → Type 0
 Delivers old new text status answer =
     ((answer ≡ status) × (new ≡ append_known old text))
-    ⊎ (((answer ≡ WriteFault) ⊎ (answer ≡ Memory)) × AppendsProperPrefix old new text)
+    ⊎ ((answer ≡ WriteFault) × AppendsProperPrefix old new text)
 
 -- Where there was memory for the text, it was delivered; where there was none, nothing was written.
 abbrev pub IsWritten : {E : Type 0} → Result (Vec ℕ Global) E → Option (List ℕ) → Option (List ℕ) → Status → Status
@@ -28,13 +29,29 @@ abbrev pub IsWritten : {E : Type 0} → Result (Vec ℕ Global) E → Option (Li
 IsWritten (Ok text) old new status answer = Delivers old new text.items status answer
 IsWritten (Err e) old new status answer = (answer ≡ Memory) × (new ≡ old)
 
--- What is told of a cascade was delivered.
-pub record DeliversCascade (telling : Telling) (limit : ℕ) (names : List (List ℕ)) (graph : QGraph)
-    (grammars : List Grammar) (old new : Option (List ℕ)) (answer : Status) : Type 0 where
+-- Memory was wanting for a block of this text: the blocks in front of it were written, of which `Begun` holds.
+pub record StopsBetween (Begun : List ℕ → Type 0) (text : List ℕ) (old new : Option (List ℕ)) (answer : Status)
+    : Type 0 where
+  pub wanting : answer ≡ Memory
+  pub front : List ℕ
+  pub begins : Begun front
+  pub written : new ≡ append_known old front
+  pub prefix : AppendsProperPrefix old new text
+
+-- A text that is written block by block, of which `Whole` holds with its ending, was delivered; or its first blocks
+-- were written, of which `Begun` holds.
+pub record DeliversBlocks (Whole : List ℕ → Ending → Type 0) (Begun : List ℕ → Type 0) (old new : Option (List ℕ))
+    (answer : Status) : Type 0 where
   pub text : List ℕ
   pub ending : Ending
-  pub outcome : Tells telling limit names graph grammars text ending
-  pub delivered : Delivers old new text (status_of ending) answer
+  pub outcome : Whole text ending
+  pub delivered : Delivers old new text (status_of ending) answer ⊎ StopsBetween Begun text old new answer
+
+-- So it is with what is told of a cascade.
+abbrev pub DeliversCascade : Telling → ℕ → List (List ℕ) → QGraph → List Grammar → Option (List ℕ) → Option (List ℕ)
+    → Status → Type 0
+DeliversCascade telling limit names graph grammars old new answer =
+    DeliversBlocks (Tells telling limit names graph grammars) (Begins telling limit names graph grammars) old new answer
 
 -- The text that is defined was delivered.
 pub record DeliversDefined (job : Job) (bytes : List ℕ) (old new : Option (List ℕ)) (answer : Status) : Type 0 where
@@ -43,9 +60,10 @@ pub record DeliversDefined (job : Job) (bytes : List ℕ) (old new : Option (Lis
   pub defined : IsDefined job bytes text status
   pub delivered : Delivers old new text status answer
 
--- That, or memory was wanting before a text was found, and nothing was written.
+-- That, or memory was wanting, and nothing was written or the first blocks.
 abbrev pub IsAnswered : Job → List ℕ → Option (List ℕ) → Option (List ℕ) → Status → Type 0
-IsAnswered job bytes old new answer = ((answer ≡ Memory) × (new ≡ old)) ⊎ DeliversDefined job bytes old new answer
+IsAnswered job bytes old new answer =
+    ((answer ≡ Memory) × KeepsToBlocks job bytes old new) ⊎ DeliversDefined job bytes old new answer
 
 -- A valid graph on which so many grammars can still be run: its labels are named, and there is room for 16,000,000
 -- arcs and nodes more for each of the grammars, which is 16 for each firing of the greatest limit.
@@ -55,11 +73,20 @@ pub record CanGoOn (names : List (List ℕ)) (graph : QGraph) (grammars : ℕ) :
   pub arcs : length graph.arcs + 16000000 * grammars ≤ 4200000000
   pub nodes : graph.nodes + 16000000 * grammars ≤ 4200000000
 
--- Some grammars of a cascade from a graph have been run and have left the graph `now`; what is told of them was
--- written. The others go on with that graph: what is told of them is what is left to write.
-pub record HasCome (telling : Telling) (limit : ℕ) (names : List (List ℕ)) (graph : QGraph) (grammars : List Grammar)
-    (old new : Option (List ℕ)) (now : QGraph) (others : List Grammar) : Type 0 where
+-- Some blocks of a text were written: with what is left to write of it behind them, of which `Rest` holds with its
+-- ending, it is a text of which `Whole` holds. In the same way the first of its blocks are these and the first ones
+-- that are left.
+pub record HasCome (Whole Rest : List ℕ → Ending → Type 0) (Begun RestBegun : List ℕ → Type 0)
+    (old new : Option (List ℕ)) : Type 0 where
   pub front : List ℕ
   pub written : new ≡ append_known old front
-  pub goes_on : (text : List ℕ) (ending : Ending) → Tells telling limit names now others text ending
-      → Tells telling limit names graph grammars (front ++ text) ending
+  pub goes_on : (text : List ℕ) (ending : Ending) → Rest text ending → Whole (front ++ text) ending
+  pub begins : (text : List ℕ) → RestBegun text → Begun (front ++ text)
+
+-- Some grammars of a cascade from a graph have been run and have left the graph `now`; what is told of them was
+-- written. The others go on with that graph: what is told of them is what is left to write.
+abbrev pub HasRun : Telling → ℕ → List (List ℕ) → QGraph → List Grammar → Option (List ℕ) → Option (List ℕ) → QGraph
+    → List Grammar → Type 0
+HasRun telling limit names graph grammars old new now others =
+    HasCome (Tells telling limit names graph grammars) (Tells telling limit names now others)
+    (Begins telling limit names graph grammars) (Begins telling limit names now others) old new

@@ -2,7 +2,7 @@
 use Rattle.std.specs.Prelude.{◌≡◌, ℕ, ◌<◌, ◌^◌, pos, List, Some, codes}
 use Rattle.clap.specs.Words.{one_text, without_minus, IsSignedIn}
 use Rattle.clap.specs.declared.parser.matches.Found.{Found}
-use Rattle.qsys.specs.Limits.{most_limit, most_workers, most_size}
+use Rattle.qsys.specs.Limits.{most_limit, most_workers, most_size, most_readings}
 
 -- The option of this name has a text, and it is a number between these two.
 pub record HasNumber (found : Found) (name : List ℕ) (least most : ℕ) : Type 0 where
@@ -22,3 +22,4 @@ pub record HasNumbers (found : Found) : Type 0 where
   pub limit : HasNumber found (codes "limit") 1 most_limit
   pub workers : HasNumber found (codes "workers") 1 most_workers
   pub size : HasNumber found (codes "size") 0 most_size
+  pub readings : HasNumber found (codes "readings") 1 most_readings

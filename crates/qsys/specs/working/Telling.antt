@@ -13,14 +13,19 @@ use Rattle.qs_explain.specs.Texts.{support_text}
 use Rattle.qs_deck.specs.Decks.{Grammar}
 use Rattle.qsys.specs.declared.telling.Telling.{Telling}
 use Rattle.qsys.specs.declared.telling.Telling.TheVariants as telling
-use Rattle.qsys.specs.Outcomes.{block, IsOutcome}
-use Rattle.qsys.specs.Explanations.{Explains}
+use Rattle.qsys.specs.Outcomes.{block, BeginsOutcome, IsOutcome}
+use Rattle.qsys.specs.Explanations.{BeginsExplanation, Explains}
 use Rattle.qsys.specs.working.Ends.{left_of}
 
 -- The text that is told of the cascade of these grammars from the graph, and how it ends.
 abbrev pub Tells : Telling → ℕ → List (List ℕ) → QGraph → List Grammar → List ℕ → Ending → Type 0
 Tells telling.Blocks L names G grammars text ending = IsOutcome L names G grammars text ending
 Tells telling.Supports L names G grammars text ending = Explains L names G grammars text ending
+
+-- The text is the first blocks of what is told of the cascade of these grammars from the graph, fewer than all.
+abbrev pub Begins : Telling → ℕ → List (List ℕ) → QGraph → List Grammar → List ℕ → Type 0
+Begins telling.Blocks L names G grammars text = BeginsOutcome L names G grammars text
+Begins telling.Supports L names G grammars text = BeginsExplanation L names G grammars text
 
 -- The graph H is left of a closure, with whose support this is written.
 pub record IsSupported (L : ℕ) (names : List (List ℕ)) (R : List Rule) (G H : QGraph) (firings : ℕ) (text : List ℕ)

@@ -1,6 +1,16 @@
-use Rattle.std.proofs.Common.{arith}
-use Rattle.qsys.proofs.GoingOn.{turn_arcs, turn_nodes, turn_named, turn_without_memory, turn_failed, turn_empty, turn_over, turn_further, turn_can_go_on, at_end}
+use Rattle.std.proofs.Common.{map, refl, arith}
+use Rattle.qs_deck.specs.Decks.{grammar_of}
+use Rattle.qsys.specs.working.Telling.{Begins, Tells}
+use Rattle.qsys.proofs.GoingOn.{come_first, turn_arcs, turn_nodes, turn_named, turn_without_memory, turn_failed, turn_empty, turn_over, turn_further, turn_can_go_on, at_end}
 use Rattle.qsys.proofs.cascade.cascade.Goals as goal
+
+pub loop-system-init : goal.loop-system-init
+loop-system-init g c = (
+  come_first (Tells c.args.teller.now.telling c.args.teller.now.limit c.args.teller.now.names.now c.args.start (map grammar_of c.args.systems.now))
+      (Begins c.args.teller.now.telling c.args.teller.now.limit c.args.teller.now.names.now c.args.start (map grammar_of c.args.systems.now)) _,
+  c.requires.can_go_on,
+  refl,
+)
 
 pub tell-requires-clause-arcs : goal.tell-requires-clause-arcs
 tell-requires-clause-arcs g c =

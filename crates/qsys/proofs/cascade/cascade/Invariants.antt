@@ -1,10 +1,10 @@
 use Rattle.std.proofs.Common.{◌≡◌, length, map, drop}
 use Rattle.qs_deck.specs.Decks.{grammar_of}
-use Rattle.qsys.specs.working.Cascading.{CanGoOn, HasCome}
+use Rattle.qsys.specs.working.Cascading.{CanGoOn, HasRun}
 use Rattle.qsys.proofs.cascade.cascade.Given as goal
 
 abbrev pub invariant-loop-system : goal.invariant-loop-system
 invariant-loop-system g l =
-    HasCome l.teller.telling l.teller.limit l.teller.names.now l.initial.graph (map grammar_of l.systems) (g.K.Sink.written l.fn.sink) (g.K.Sink.written l.sink) l.graph (map grammar_of (drop l.system-index l.systems))
+    HasRun l.teller.telling l.teller.limit l.teller.names.now l.initial.graph (map grammar_of l.systems) (g.K.Sink.written l.fn.sink) (g.K.Sink.written l.sink) l.graph (map grammar_of (drop l.system-index l.systems))
     × CanGoOn l.teller.names.now l.graph (length (drop l.system-index l.systems))
     × (g.K.Sink.faults l.sink ≡ g.K.Sink.faults l.fn.sink)

@@ -1,4 +1,3 @@
-use Rattle.qs_tree.specs.declared.cell.Label.{Label}
 use Rattle.qsys.proofs.LevelsTold.{in_index}
 use Rattle.qsys.proofs.levels.append_lines.Goals as goal
 

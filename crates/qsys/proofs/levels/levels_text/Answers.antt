@@ -1,4 +1,4 @@
-use Rattle.std.proofs.Common.{◌≡◌, List, map, subst, sym}
+use Rattle.std.proofs.Common.{List, subst}
 use Rattle.qs_pattern.specs.Rules.{Rule}
 use Rattle.qs_levels.specs.Certificates.{IsFound}
 use Rattle.qsys.proofs.GoingOn.{among_all, next_system}

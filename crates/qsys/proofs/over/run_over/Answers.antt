@@ -1,4 +1,4 @@
-use Rattle.std.proofs.Common.{◌≡◌, ℕ, List, [], Some, ◌∙◌, ap, arith, map, subst}
+use Rattle.std.proofs.Common.{ℕ, List, [], Some, ◌∙◌, ap, arith, map, subst}
 use Rattle.std.specs.String.{string_bytes}
 use Rattle.qs_io.specs.Standard.{OverReader, OverWriter}
 use Rattle.qs_io.specs.TracedSinks.{Traced}

@@ -1,4 +1,4 @@
-use Rattle.std.proofs.Common.{List, length, map, refl, sym, subst}
+use Rattle.std.proofs.Common.{List, map, refl, sym, subst}
 use Rattle.qs_deck.specs.declared.system.System.{System}
 use Rattle.qs_deck.specs.Decks.{grammar_of, IsDeckOf}
 use Rattle.qs_deck.specs.Named.{AreSystemsNamed}

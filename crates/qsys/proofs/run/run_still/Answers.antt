@@ -1,4 +1,4 @@
-use Rattle.std.proofs.Common.{[], ◌∙◌, sym, refl, subst}
+use Rattle.std.proofs.Common.{[], sym, refl, subst}
 use Rattle.std.proofs.lemmas.List.{append-nil}
 use Rattle.qsys.specs.Defined.{Reads}
 use Rattle.qsys.proofs.Calls.{answer_of_made, nothing_read}

@@ -1,4 +1,4 @@
-use Rattle.std.proofs.Common.{◌⊎◌, inl, inr, Err, ap, map, subst, refl, sym, ◌∙◌}
+use Rattle.std.proofs.Common.{inl, inr, Err, ap, map, subst, sym, ◌∙◌}
 use Rattle.std.specs.String.{string_bytes}
 use Rattle.qsys.specs.declared.job.Job.{Job}
 use Rattle.qsys.specs.Answers.{EndsAsDefined}

@@ -1,6 +1,7 @@
 use Rattle.std.proofs.Common.{◌≡◌, ◌∙◌, None, arith, codes, sym}
 use Rattle.clap.specs.Matches.{first_value, found_of}
 use Rattle.qsys.specs.Limits.{most_limit, most_workers as most_of_workers, most_size as most_of_size}
+use Rattle.qsys.specs.Limits.{most_readings as most_of_readings}
 use Rattle.qsys.proofs.ReadWords.{job_by_word, job_read, no_job_read}
 use Rattle.qsys.proofs.words.job_in.Goals as goal
 
@@ -23,19 +24,25 @@ number_in-requires-2 c = record { least = 1; most = most_of_workers; fits = omeg
 pub number_in-requires-3 : goal.number_in-requires-3
 number_in-requires-3 c = record { least = 0; most = most_of_size; fits = omega arith; number = c.requires.size }
 
+pub number_in-requires-4 : goal.number_in-requires-4
+number_in-requires-4 c = record { least = 1; most = most_of_readings; fits = omega arith; number = c.requires.readings }
+
 pub returns-clause-job : goal.returns-clause-job
 returns-clause-job c =
-    job_read (found_of c.args.matches.now) c.in_ok-get_str.field-0.now c.in_ok-command.command c.number_in.result c.number_in-2.result c.number_in-3.result
-    (sym c.in_ok-get_str.ensures) (sym c.in_ok-command.ensures) c.number_in.ensures.number c.number_in-2.ensures.number c.number_in-3.ensures.number
+    job_read (found_of c.args.matches.now) c.in_ok-get_str.field-0.now c.in_ok-command.command c.number_in.result c.number_in-2.result c.number_in-3.result c.number_in-4.result
+    (sym c.in_ok-get_str.ensures) (sym c.in_ok-command.ensures) c.number_in.ensures.number c.number_in-2.ensures.number c.number_in-3.ensures.number c.number_in-4.ensures.number
 
 pub returns-clause-range : goal.returns-clause-range
 returns-clause-range c =
     let limit = c.number_in.ensures.range 1 most_limit (omega arith) c.requires.limit in
     let workers = c.number_in-2.ensures.range 1 most_of_workers (omega arith) c.requires.workers in
     let size = c.number_in-3.ensures.range 0 most_of_size (omega arith) c.requires.size in
+    let readings = c.number_in-4.ensures.range 1 most_of_readings (omega arith) c.requires.readings in
     record {
       limit = record { low = limit.0; high = limit.1 };
       least_workers = workers.0;
       most_workers = workers.1;
       most_size = size.1;
+      least_readings = readings.0;
+      most_readings = readings.1;
     }

@@ -10,8 +10,9 @@ unfolding simple_command
 returns c =
     let program : app_of c.no_binary_name.result ≡ without_program (new_app (codes "qsys")) =
     ap app_of_fields c.no_binary_name.ensures ∙ ap without_program c.new.ensures.app in
-    IfOk-weaker c.arg-4.result _ _
-    (λ command added. added.shape c.number_option-3.ensures.local
+    IfOk-weaker c.arg-5.result _ _
+    (λ command added. added.shape c.number_option-4.ensures.local
+    ∙ ap₂ with_rule (c.in_ok-arg-4.ensures.shape c.number_option-3.ensures.local
     ∙ ap₂ with_rule (c.in_ok-arg-3.ensures.shape c.number_option-2.ensures.local
     ∙ ap₂ with_rule (c.in_ok-arg-2.ensures.shape c.number_option.ensures.local
     ∙ ap₂ with_rule (c.in_ok-arg.ensures.shape c.required_word.ensures.local
@@ -19,4 +20,5 @@ returns c =
     c.number_option.ensures.rule)
     c.number_option-2.ensures.rule)
     c.number_option-3.ensures.rule)
-    c.arg-4.ensures
+    c.number_option-4.ensures.rule)
+    c.arg-5.ensures

@@ -62,3 +62,11 @@ returns-clause-repeated c = refl
 pub returns-clause-help : goal.returns-clause-help
 unfolding clap_on_literals job_of simple_command
 returns-clause-help c = refl
+
+pub returns-clause-phrase : goal.returns-clause-phrase
+unfolding clap_on_literals job_of simple_command
+returns-clause-phrase c = refl
+
+pub returns-clause-too_many_readings : goal.returns-clause-too_many_readings
+unfolding clap_on_literals job_of simple_command
+returns-clause-too_many_readings c = refl

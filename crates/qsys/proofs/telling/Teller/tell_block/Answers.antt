@@ -1,7 +1,6 @@
 use Rattle.std.proofs.Common.{List, length, subst}
 use Rattle.qs_pattern.specs.Rules.{Rule}
 use Rattle.qs_cascade.specs.Stages.{MakesNoLabels}
-use Rattle.qsys.proofs.GoingOn.{each_right}
 use Rattle.qsys.proofs.telling.Teller.tell_block.Goals as goal
 
 pub returns-clause-labels : goal.returns-clause-labels

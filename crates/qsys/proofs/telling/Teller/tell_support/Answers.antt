@@ -1,4 +1,4 @@
-use Rattle.std.proofs.Common.{◌≡◌, ◌∙◌, ◌++◌, ℕ, List, length, subst, sym, ap, arith}
+use Rattle.std.proofs.Common.{◌∙◌, ◌++◌, ℕ, List, length, subst, sym, ap, arith}
 use Rattle.qs_tree.specs.Lists.{◌∈◌}
 use Rattle.qs_pattern.specs.Named.{ArePatternsNamed}
 use Rattle.qs_pattern.specs.Rules.{Rule}
