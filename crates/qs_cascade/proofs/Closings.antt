@@ -1,86 +1,84 @@
--- From round to round.
-use Rattle.std.proofs.Common.{◌≡◌, ℕ, suc, ◌+◌, ◌*◌, ◌<◌, ◌≤◌, ◌-◌, true, false, List, [], length, sym, ap, subst, arith}
-use Rattle.qs_tree.specs.Lists.{◌∈◌}
-use Rattle.qs_pattern.specs.Rules.{Rule, IsAccepted}
-use Rattle.qs_graph.specs.Graphs.{QGraph, IsValid, IsEntry, IsExit}
-use Rattle.qs_firing.specs.Firings.{Firing}
-use Rattle.qs_canon.specs.Rounds.{Done, Stage, start, after, Needs}
+-- What the end of a run shows of the rounds.
+use Rattle.std.proofs.Common.{◌≡◌, ℕ, ◌+◌, ◌*◌, ◌≤◌, ◌⊎◌, inl, inr, ⊎_elim, List, length, Option, Some, None, Bool, true, false, not, refl, sym, ◌∙◌, ap, subst, arith}
+use Rattle.std.specs.Option.{option_map, option_eq}
+use Rattle.qs_pattern.specs.Rules.{Rule}
+use Rattle.qs_graph.specs.Graphs.{QGraph}
+use Rattle.qs_core.specs.contracts.answers.EndPartialEq.TheImpl as same_end
+use Rattle.qs_core.specs.declared.step.Stop.{Stop}
+use Rattle.qs_core.specs.declared.answers.End.{End}
+use Rattle.qs_core.specs.declared.answers.End.TheVariants as end
+use Rattle.qs_core.specs.Core.{Base, IsClosed}
+use Rattle.qs_core.specs.Runs.{Machine}
+use Rattle.qs_core.specs.Answers.{end_of_stop, IsStopped, IsEnd}
+use Rattle.qs_canon.specs.Rounds.{Stage, ClosesWithin, Needs}
 use Rattle.qs_canon.specs.Closures.{ClosureOf, IsClosure}
-use Rattle.qs_canon.proofs.Rounds.{length-after}
+use Rattle.qs_canon.specs.Numbering.{IsNumbering}
+use Rattle.qs_canon.proofs.Rounds.{one_closure}
+use Rattle.qs_canon.proofs.Existence.{has_rounds}
+use Rattle.qs_canon.proofs.Progress.{closes_or_needs}
+use Rattle.qs_canon.proofs.Growing.{rounds_grow}
 use Rattle.qs_canon.proofs.Naming.{rounds_named}
 use Rattle.qs_clean.specs.Cleaning.{IsClosureOfValid}
-use Rattle.qs_cascade.specs.working.Finding.{Finds, NewFiring}
+use Rattle.qs_worker.specs.Saturation.{IsSaturated}
 use Rattle.qs_cascade.specs.ClosureEnds.{HasGrownWithin, HasNoNewLabels}
-use Rattle.qs_cascade.proofs.Reaching.{Reaches, reaches_start, reaches_next, round_found, needs_all, needs_more, closes_here}
 
--- the stage before a round
-pub record Goes (R : List Rule) (G : QGraph) (L n old : ℕ) (S : Stage) : Type 0 where
-  pub reaches : Reaches R G n old S
-  pub few : length S.done ≤ L
-  pub rounds : n ≤ length S.done
-  pub arcs : length S.graph.arcs ≤ length G.arcs + 16 * length S.done
-  pub nodes : S.graph.nodes ≤ G.nodes + 16 * length S.done
+not_stopped : (o : Option Stop) (e : End) → o ≡ None → option_map end_of_stop o ≡ Some e → ⊥
+not_stopped None e none stopped = cc
+not_stopped (Some s) e none stopped = cc
 
-pub goes_start : (R : List Rule) (G : QGraph) (L : ℕ) → Goes R G L 0 0 (start G)
-goes_start R G L = record { reaches = reaches_start R G; few = omega arith; rounds = omega arith; arcs = omega arith; nodes = omega arith }
+-- whether it is another end than closed
+abbrev is_other : Option End → Bool
+is_other o = not (option_eq same_end.eq-value.it o (Some end.Closed))
 
-pub goes_next : (R : List Rule) (G : QGraph) (L n old : ℕ) (S : Stage) (F : List Firing) (room : ℕ) (T : Stage) → Goes R G L n old S → Finds (NewFiring R S.graph.arcs old) [] F room true → 0 < length F → length S.done + length F ≤ L
-    → T ≡ after R (suc n) S F → length T.graph.arcs ≤ length S.graph.arcs + 16 * length F → T.graph.nodes ≤ S.graph.nodes + 16 * length F → Goes R G L (suc n) (length S.graph.arcs) T
-goes_next R G L n old S F room T g f some few e arcs nodes =
-    let long = ap (λ (X : Stage). length X.done) e in
-    let more = length-after R (suc n) S F in
-    let fewer = g.few in
-    let r = g.rounds in
-    let a = g.arcs in
-    let m = g.nodes in
-    record {
-      reaches = reaches_next g.reaches (round_found g.reaches f) e;
-      few = omega arith;
-      rounds = omega arith;
-      arcs = omega arith;
-      nodes = omega arith;
-    }
+told_closed : (o : Option End) → false ≡ is_other o → o ≡ Some end.Closed
+told_closed None e = absurd cc
+told_closed (Some end.Closed) e = refl
+told_closed (Some end.Over) e = absurd cc
+told_closed (Some end.Halted) e = absurd cc
 
--- the stage at the start, of a copy of the graph and an empty list
-pub goes_first : (R : List Rule) (G : QGraph) (L : ℕ) (H : QGraph) (done : List Done) → H ≡ G → done ≡ [] → Goes R G L 0 0 (record { graph = H; done = done })
-goes_first R G L H done e d =
-    let same : record { graph = H; done = done } ≡ start G = λ i. record { graph = e i; done = d i } in
-    subst (λ (S : Stage). Goes R G L 0 0 S) (sym same) (goes_start R G L)
+not_told : (o : Option End) → true ≡ is_other o → o ≡ Some end.Closed → ⊥
+not_told None e is = absurd cc
+not_told (Some end.Closed) e is = absurd cc
+not_told (Some end.Over) e is = absurd cc
+not_told (Some end.Halted) e is = absurd cc
 
--- the search has given up: more new firings than the limit leaves room for
-pub gives_up : (R : List Rule) (G : QGraph) (L n old room : ℕ) (S : Stage) → ((rule : Rule) → rule ∈ R → IsAccepted rule) → Goes R G L n old S → room ≡ L - length S.done
-    → (more : List Firing) × Finds (NewFiring R S.graph.arcs old) [] more room false → Needs R G L
-gives_up R G L n old room S ok g e (more, x) =
-    let few = g.few in
-    needs_more (λ rule i. (ok rule i).left.in_class) g.reaches g.rounds (omega arith) x
+pub ends_closed : (M : Machine) (e : Option End) (other : Bool) → other ≡ false → other ≡ is_other e → IsEnd M.state e → IsClosed M.state
+ends_closed M e other holds told is = subst (λ (o : Option End). IsEnd M.state o) (told_closed e (sym holds ∙ told)) is
 
--- the search has found the round, and it is longer than the limit leaves room for
-pub passes : (R : List Rule) (G : QGraph) (L n old room : ℕ) (S : Stage) (F : List Firing) → Goes R G L n old S → Finds (NewFiring R S.graph.arcs old) [] F room true → L - length S.done < length F → Needs R G L
-passes R G L n old room S F g x more =
-    let few = g.few in
-    needs_all g.reaches (round_found g.reaches x) g.rounds (omega arith) few
-
--- what a closure that was reached shows
-pub record ClosesSoon (R : List Rule) (G : QGraph) (L : ℕ) (c : ClosureOf) : Type 0 where
+-- what the closure of a run shows
+pub record Closes (R : List Rule) (G : QGraph) (L : ℕ) (c : ClosureOf) : Type 0 where
   pub closure : IsClosure R G c
   pub few : length c.stage.done ≤ L
   pub valid : IsClosureOfValid c
   pub grown : HasGrownWithin G L c
   pub no_labels : HasNoNewLabels R G c
 
--- the search has found nothing
-pub closes_soon : (R : List Rule) (G : QGraph) (L n old room : ℕ) (S : Stage) (F : List Firing) (entry exit first : ℕ) → ((rule : Rule) → rule ∈ R → IsAccepted rule) → IsValid G → 1 ≤ L → length G.arcs + 16 * L ≤ 4294967295
-    → Goes R G L n old S → Finds (NewFiring R S.graph.arcs old) [] F room true → F ≡ [] → IsEntry G entry → IsExit G exit → first ≡ length G.arcs → ClosesSoon R G L (record { stage = S; entry = entry; exit = exit; start = first })
-closes_soon R G L n old room S F entry exit first ok valid some fits g x none e f s =
-    let few = g.few in
-    let arcs = g.arcs in
-    let nodes = g.nodes in
-    let closes = closes_here g.reaches (subst (λ (fs : List Firing). Finds (NewFiring R S.graph.arcs old) [] fs room true) none x) in
-    let closure : IsClosure R G (record { stage = S; entry = entry; exit = exit; start = first }) = record { closes = closes; entry = e; exit = f; start = s } in
-    record {
-      closure = closure;
-      few = few;
-      valid = record { rules = R; accepted = ok; start = G; valid = valid; start_few = omega arith; closure = closure; few = omega arith };
-      grown = (omega arith, omega arith);
-      no_labels = λ m right named. rounds_named m R ok right G named closes.rounds S closes.reached;
-    }
+module _ (R : List Rule) (G : QGraph) (L seats : ℕ) (M : Machine) (x : IsSaturated R G L seats M) where
+  -- a run that hasn't ended closed was stopped because more firings are needed
+  not_closed : (e : Option End) → (e ≡ Some end.Closed → ⊥) → IsEnd M.state e → IsClosed M.state ⊎ IsStopped M.state end.Over → Needs R G L
+  not_closed e not is (inr stopped) = x.over stopped
+  not_closed None not is (inl closed) = absurd (is (inl closed))
+  not_closed (Some end.Closed) not is (inl closed) = absurd (not refl)
+  not_closed (Some end.Over) not is (inl closed) = absurd (not_stopped M.state.stop end.Over closed.going is)
+  not_closed (Some end.Halted) not is (inl closed) = absurd (not_stopped M.state.stop end.Halted closed.going is)
+
+  pub needs : (e : Option End) (other : Bool) → other ≡ true → other ≡ is_other e → IsEnd M.state e → Needs R G L
+  needs e other holds told is = not_closed e (not_told e (sym holds ∙ told)) is x.ended
+
+  -- one that has ended closed shows that no more are needed, and there is one closure
+  pub closes : IsClosed M.state → (c : ClosureOf) (arcs nodes : List ℕ) → IsNumbering M c arcs nodes → 1 ≤ L → length G.arcs + 16 * L ≤ 4294967295 → Closes R G L c
+  closes closed c arcs nodes numbering low fits =
+      let closure : IsClosure R G c = subst (λ (B : Base). IsClosure B.rules B.start c) x.base numbering.closure in
+      let within : ClosesWithin R G L = ⊎_elim (λ w. w) (λ n. absurd (x.closed closed n)) (closes_or_needs R (has_rounds R (λ rule i. (x.accepted rule i).left.in_class)) G L) in
+      let same = one_closure R G within.closure c.stage within.closes closure.closes in
+      let few : length c.stage.done ≤ L = omega (arith, within.few, ap (λ (S : Stage). length S.done) same) in
+      let grows = rounds_grow R x.accepted G closure.closes.rounds c.stage closure.closes.reached in
+      let more_arcs = grows.arcs in
+      let more_nodes = grows.nodes in
+      record {
+        closure = closure;
+        few = few;
+        valid = record { rules = R; accepted = x.accepted; start = G; valid = x.valid; start_few = omega arith; closure = closure; few = omega arith };
+        grown = (omega arith, omega arith);
+        no_labels = λ n right named. rounds_named n R x.accepted right G named closure.closes.rounds c.stage closure.closes.reached;
+      }

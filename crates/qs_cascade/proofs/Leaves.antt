@@ -10,8 +10,8 @@ use Rattle.qs_canon.specs.Closures.{ClosureOf, IsClosure}
 use Rattle.qs_clean.specs.Cleaning.{Cleans, IsClosureOfValid}
 use Rattle.qs_clean.proofs.Closures.{stage_valid}
 use Rattle.qs_clean.proofs.Fewer.{fewer_arcs, fewer_nodes, old_tree}
-use Rattle.qs_cascade.specs.declared.stage.StageEnd.{StageEnd}
-use Rattle.qs_cascade.specs.declared.stage.StageEnd.TheVariants as end
+use Rattle.qs_cascade.specs.declared.stages.StageEnd.{StageEnd}
+use Rattle.qs_cascade.specs.declared.stages.StageEnd.TheVariants as end
 use Rattle.qs_cascade.specs.ClosureEnds.{IsClosureEnd, HasGrownWithin, HasNoNewLabels}
 use Rattle.qs_cascade.specs.Stages.{LeavesGraph, IsStageEnd, IsEndBehind, GrowsWithin, MakesNoLabels}
 

@@ -6,8 +6,8 @@ use Rattle.qs_canon.specs.Rounds.{Stage, Needs}
 use Rattle.qs_canon.proofs.Rounds.{not_both}
 use Rattle.qs_clean.proofs.Outcomes.{same_both}
 use Rattle.qs_cascade.specs.Stages.{LeavesGraph, IsStageEnd}
-use Rattle.qs_cascade.specs.declared.stage.StageEnd.{StageEnd}
-use Rattle.qs_cascade.specs.declared.stage.StageEnd.TheVariants as end
+use Rattle.qs_cascade.specs.declared.stages.StageEnd.{StageEnd}
+use Rattle.qs_cascade.specs.declared.stages.StageEnd.TheVariants as end
 
 module _ (R : List Rule) (G : QGraph) (L : ℕ) where
   -- what is left, and behind how many firings

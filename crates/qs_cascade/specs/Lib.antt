@@ -1,3 +1,2 @@
 pub mod ClosureEnds
 pub mod Stages
-pub mod working

@@ -9,8 +9,8 @@ use Rattle.qs_graph.specs.Graphs.{Arc, QGraph}
 use Rattle.qs_canon.specs.Rounds.{Stage, Closes, Needs}
 use Rattle.qs_canon.specs.Closures.{ClosureOf}
 use Rattle.qs_clean.specs.Cleaning.{Cleans}
-use Rattle.qs_cascade.specs.declared.stage.StageEnd.{StageEnd}
-use Rattle.qs_cascade.specs.declared.stage.StageEnd.TheVariants as end
+use Rattle.qs_cascade.specs.declared.stages.StageEnd.{StageEnd}
+use Rattle.qs_cascade.specs.declared.stages.StageEnd.TheVariants as end
 
 -- The closure, with at most L firings, and what cleaning leaves of it.
 pub record LeavesGraph (R : List Rule) (G : QGraph) (L : ℕ) (firings : ℕ) (H : QGraph) : Type 0 where

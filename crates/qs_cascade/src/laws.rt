@@ -4,7 +4,7 @@ ghost use Rattle.std.specs.Prelude.{◌≡◌, ℕ, List};
 ghost use Rattle.qs_pattern.specs.Rules.{Rule};
 ghost use Rattle.qs_graph.specs.Graphs.{QGraph};
 ghost use Rattle.qs_cascade.specs.Stages.{IsStageEnd};
-ghost use Rattle.qs_cascade.specs.declared.stage.StageEnd.{StageEnd};
+ghost use Rattle.qs_cascade.specs.declared.stages.StageEnd.{StageEnd};
 
 /// One stage has one end: what a grammar leaves of a graph is determined by its rules, the graph and the limit. So of
 /// `stage_alone`, where memory lasts, `Over` comes exactly where the rules need more firings than the limit, `Empty`

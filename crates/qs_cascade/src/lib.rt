@@ -1,14 +1,10 @@
 //! One grammar: the closure of its rules over a graph, and what cleaning leaves of it.
 #![tactic(auto)]
 
-mod adding;
-mod arcs;
 mod closing;
 pub mod laws;
-mod rounds;
-mod search;
-mod stage;
+mod stages;
 
-pub use closing::closure_alone;
-pub use stage::{StageEnd, end_behind, stage_alone};
+pub use closing::{closure, closure_alone, closure_by};
+pub use stages::{StageEnd, end_behind, stage, stage_alone, stage_by};
 pub use std::alloc::AllocError as Memory;

@@ -1,8 +1,13 @@
 //! Tests of the values that rules act on: labels and trees, variables and substitutions, graphs, firings and
-//! matches; of the work of an arc; of the machine of steps; of one worker; of what unique grammars leave; of level
-//! certificates; of where the arcs that are left come from; and of lines of words and readings.
+//! matches; of the work of an arc; of the machine of steps; of the closure that is found from its runs; of one
+//! worker; of what unique grammars leave; of level certificates; of where the arcs that are left come from; and of
+//! lines of words and readings.
 #![tactic(auto)]
 
+#[cfg(test)]
+mod canon_tests;
+#[cfg(test)]
+mod closure_tests;
 #[cfg(test)]
 mod core_tests;
 #[cfg(test)]

@@ -6,7 +6,7 @@ ghost use Rattle.qs_canon.specs.Merging.{side};
 
 use qs_cascade::{Memory, StageEnd, stage_alone};
 use qs_deck::read_deck;
-use qs_graph::Graph;
+use qs_graph::Edge;
 use qs_pattern::{Head, Pattern, Rule};
 use qs_tree::Label;
 use std::alloc::Global;
@@ -72,14 +72,14 @@ fn both(alloc: Global, first: Rule, second: Rule) -> Result<Vec<Rule>, Memory>
     Ok(rules)
 }
 
-/// Whether the graph has these arcs, each by its nodes and its label.
-fn has_arcs(graph: &Graph, arcs: &[(u32, Label, u32)]) -> bool {
-    for (edge, (from, label, to)) in graph.edges().iter().zip(arcs) {
+/// Whether these are the arcs, each by its nodes and its label.
+pub fn has_arcs(edges: &[Edge], arcs: &[(u32, Label, u32)]) -> bool {
+    for (edge, (from, label, to)) in edges.iter().zip(arcs) {
         if edge.from != *from || edge.to != *to || edge.tree.view().root() != *label {
             return false;
         }
     }
-    graph.edges().len() == arcs.len()
+    edges.len() == arcs.len()
 }
 
 /// How the rules end on the graph of this text, with this limit.
@@ -99,7 +99,7 @@ fn leaves(end: &StageEnd, firings: u32, arcs: &[(u32, Label, u32)]) -> bool {
         StageEnd::Left {
             graph,
             firings: done,
-        } => *done == firings && has_arcs(graph, arcs),
+        } => *done == firings && has_arcs(graph.edges(), arcs),
         StageEnd::Empty { firings: done } => *done == firings && arcs.is_empty(),
         StageEnd::Over => false,
     }

@@ -1,3 +1,4 @@
 pub mod Waiting
 pub mod Turns
 pub mod Saturating
+pub mod Working

@@ -32,6 +32,8 @@ pub saturated : (R : List Rule) (G : QGraph) (L seats : ℕ) (M : Machine) → M
     → IsClosed M.state ⊎ IsStopped M.state end.Over → IsSaturated R G L seats M
 saturated R G L seats M base accepted valid run ended = record {
   base = base;
+  accepted = accepted;
+  valid = valid;
   ended = ended;
   over = λ s. let (i, e) = over_of M.state.stop s in
       needs (over_needs M.base ends M.journal M.state.stop M.state run (has_rounds M.base.rules (λ rule i. (accepted rule (subst (λ (B : Base). rule ∈ B.rules) base i)).left.in_class)) i e);

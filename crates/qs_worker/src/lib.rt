@@ -2,6 +2,10 @@
 #![tactic(auto)]
 
 mod alone;
+mod crews;
+mod several;
 
 pub use alone::saturate_alone;
+pub use crews::{ByCall, Crew, OneWorker};
+pub use several::saturate;
 pub use std::alloc::AllocError as Memory;

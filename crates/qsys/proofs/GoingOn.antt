@@ -12,8 +12,8 @@ use Rattle.qs_pattern.specs.Rules.{Rule, IsAccepted}
 use Rattle.qs_pattern.specs.Named.{ArePatternsNamed}
 use Rattle.qs_graph.specs.Graphs.{QGraph}
 use Rattle.qs_clean.specs.Cascades.{Ending, all_done, by_limit}
-use Rattle.qs_cascade.specs.declared.stage.StageEnd.{StageEnd}
-use Rattle.qs_cascade.specs.declared.stage.StageEnd.TheVariants as end
+use Rattle.qs_cascade.specs.declared.stages.StageEnd.{StageEnd}
+use Rattle.qs_cascade.specs.declared.stages.StageEnd.TheVariants as end
 use Rattle.qs_cascade.specs.Stages.{LeavesGraph, IsStageEnd, GrowsWithin, IsEndNamed, MakesNoLabels}
 use Rattle.qs_deck.specs.declared.system.System.{System}
 use Rattle.qs_deck.specs.Decks.{Grammar, grammar_of}

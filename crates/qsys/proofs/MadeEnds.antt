@@ -9,8 +9,8 @@ use Rattle.qs_io.specs.Devices.{AppendsProperPrefix}
 use Rattle.qs_graph.specs.Graphs.{QGraph}
 use Rattle.qs_graph.proofs.Lines.{length-chain}
 use Rattle.qs_clean.specs.Cascades.{Cascade, a_graph, no_arc, over, all_done, by_limit, no_more, limit, empty, goes_on}
-use Rattle.qs_cascade.specs.declared.stage.StageEnd.{StageEnd}
-use Rattle.qs_cascade.specs.declared.stage.StageEnd.TheVariants as end
+use Rattle.qs_cascade.specs.declared.stages.StageEnd.{StageEnd}
+use Rattle.qs_cascade.specs.declared.stages.StageEnd.TheVariants as end
 use Rattle.qs_cascade.specs.Stages.{IsStageEnd}
 use Rattle.qs_deck.specs.declared.system.System.{System}
 use Rattle.qs_deck.specs.Decks.{Grammar, grammar_of}

@@ -21,7 +21,8 @@ use Rattle.qsys.specs.Texts.{refusal_line}
 use Rattle.qsys.specs.Outcomes.{IsOutcome}
 use Rattle.qs_deck.specs.MadeDecks.{made_grammar, made_graph}
 use Rattle.qsys.specs.Defined.{IsDefined, of_refused, of_deck, of_made, of_refused_phrases, of_phrases, IsDone, IsMadeOf, IsPhraseAnswer, ReadsDeck, status_of, summary}
-use Rattle.qsys.specs.Answers.{KeepsToBlocks, KeepsToDefined}
+use Rattle.qsys.specs.Answers.{KeepsToBlocks}
+use Rattle.qsys.specs.working.Cascading.{KeepsToDefined}
 use Rattle.qsys.proofs.Tellings.{one_explanation}
 use Rattle.qsys.specs.PhraseTexts.{TellsPhrases}
 use Rattle.qsys.proofs.LevelsTold.{one_telling}

@@ -7,7 +7,7 @@ use Rattle.qs_pattern.specs.Rules.{Rule, IsAccepted}
 use Rattle.qs_graph.specs.Graphs.{QGraph, IsValid}
 use Rattle.qs_clean.specs.Cascades.{Cascade, Left, a_graph, no_arc, over, Ending, all_done, by_limit, limit, empty, goes_on}
 use Rattle.qs_clean.proofs.CascadeExistence.{reached_valid, has_outcome, AllAccepted}
-use Rattle.qs_cascade.specs.declared.stage.StageEnd.TheVariants as end
+use Rattle.qs_cascade.specs.declared.stages.StageEnd.TheVariants as end
 use Rattle.qs_cascade.specs.Stages.{LeavesGraph, IsStageEnd}
 use Rattle.qs_deck.specs.Decks.{Grammar}
 use Rattle.qsys.specs.Outcomes.{block, blocks, IsOutcome}

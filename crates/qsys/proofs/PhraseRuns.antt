@@ -12,8 +12,8 @@ use Rattle.qs_ruletext.specs.WrittenRules.{WrittenRule}
 use Rattle.qs_graph.specs.Graphs.{Arc, QGraph}
 use Rattle.qs_graph.proofs.Lines.{length-chain}
 use Rattle.qs_clean.specs.Cascades.{Ending, all_done, by_limit}
-use Rattle.qs_cascade.specs.declared.stage.StageEnd.{StageEnd}
-use Rattle.qs_cascade.specs.declared.stage.StageEnd.TheVariants as end
+use Rattle.qs_cascade.specs.declared.stages.StageEnd.{StageEnd}
+use Rattle.qs_cascade.specs.declared.stages.StageEnd.TheVariants as end
 use Rattle.qs_cascade.specs.Stages.{IsStageEnd, GrowsWithin, IsEndNamed, MakesNoLabels}
 use Rattle.qs_phrase.specs.Words.{word_tree, graph_of_words}
 use Rattle.qs_deck.specs.declared.system.System.{System}

@@ -12,7 +12,7 @@ use Rattle.qs_graph.proofs.Lines.{line_valid}
 use Rattle.qs_graphtext.specs.Texts.{line}
 use Rattle.qs_clean.specs.Cascades.{Cascade, Left, a_graph, no_arc, over, Ending, all_done, by_limit, no_more, limit, empty, goes_on}
 use Rattle.qs_clean.proofs.CascadeExistence.{reached_valid, has_outcome, AllAccepted}
-use Rattle.qs_cascade.specs.declared.stage.StageEnd.TheVariants as end
+use Rattle.qs_cascade.specs.declared.stages.StageEnd.TheVariants as end
 use Rattle.qs_cascade.specs.Stages.{LeavesGraph, IsStageEnd}
 use Rattle.qs_phrase.specs.Words.{word_tree, graph_of_words}
 use Rattle.qs_deck.specs.Decks.{Grammar}

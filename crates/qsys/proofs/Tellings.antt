@@ -17,8 +17,8 @@ use Rattle.qs_clean.proofs.CascadeExistence.{reached_left, reached_valid}
 use Rattle.qs_clean.proofs.Outcomes.{same_both}
 use Rattle.qs_canon.proofs.Rounds.{not_both}
 use Rattle.qs_firing.proofs.Ascending.{same_ascending}
-use Rattle.qs_cascade.specs.declared.stage.StageEnd.{StageEnd}
-use Rattle.qs_cascade.specs.declared.stage.StageEnd.TheVariants as end
+use Rattle.qs_cascade.specs.declared.stages.StageEnd.{StageEnd}
+use Rattle.qs_cascade.specs.declared.stages.StageEnd.TheVariants as end
 use Rattle.qs_cascade.specs.ClosureEnds.{IsClosureEnd, HasNoNewLabels}
 use Rattle.qs_cascade.specs.Stages.{IsStageEnd, IsEndBehind}
 use Rattle.qs_explain.specs.Support.{SupportOf, IsSupport}

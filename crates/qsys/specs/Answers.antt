@@ -32,11 +32,6 @@ pub record WritesProperPrefix (job : Job) (bytes : List ℕ) (old new : Option (
   pub defined : IsDefined job bytes text status
   pub written : AppendsProperPrefix old new text
 
--- Nothing was written, or a proper prefix of the text that is defined. (Where nothing was written, no clause says
--- that a text is defined: memory may have been wanting before it was found.)
-abbrev pub KeepsToDefined : Job → List ℕ → Option (List ℕ) → Option (List ℕ) → Type 0
-KeepsToDefined job bytes old new = (new ≡ old) ⊎ WritesProperPrefix job bytes old new
-
 -- The first blocks, fewer than all, of what this command writes for a deck block by block. The other commands write
 -- their text at once.
 abbrev pub BeginsDone : Command → ℕ → List (List ℕ) → List Grammar → QGraph → List ℕ → Type 0

@@ -48,6 +48,20 @@ ReadsDeck command.Explain = Unit {0}
 ReadsDeck command.Levels = Unit {0}
 ReadsDeck command.Phrase = ⊥
 
+-- Four commands run grammars, which is what workers do; the other three only write what they read, or tell of it.
+abbrev pub RunsGrammars : Command → Type 0
+RunsGrammars command.Run = Unit {0}
+RunsGrammars command.Check = ⊥
+RunsGrammars command.Graph = ⊥
+RunsGrammars command.Made = Unit {0}
+RunsGrammars command.Explain = Unit {0}
+RunsGrammars command.Levels = ⊥
+RunsGrammars command.Phrase = Unit {0}
+
+-- A job is for one worker: it says so, or has nothing that workers do.
+abbrev pub IsForOneWorker : Job → Type 0
+IsForOneWorker job = RunsGrammars job.command → job.workers ≡ 1
+
 -- For a text that isn't accepted the line is defined that tells its first fault, whatever is to be done with it.
 pub record IsRefusal (bytes text : List ℕ) (status : Status) : Type 0 where
   pub refusal : Refusal

@@ -14,22 +14,25 @@ use qs_cascade::StageEnd;
 use qs_deck::System;
 use qs_graph::Graph;
 use qs_io::{Sink, write_all};
+use qs_worker::Crew;
 use std::alloc::Global;
 
 /// Runs the grammars one after another, each on the graph that the one before it left, and writes what is told of each,
-/// whole and at once, when it has ended. A grammar that leaves no arc, or that needs more firings than the limit,
-/// is the last one.
+/// whole and at once, when it has ended. The crew makes the runs. A grammar that leaves no arc, or that needs more
+/// firings than the limit, is the last one.
 ///
 /// `Done` and `Limit` come where the whole text was written; `WriteFault` only where the sink's count of faults rose; a
 /// proper prefix of the text was written then. `Memory` comes where memory was wanting; the first blocks were written
 /// then, each of them whole, and fewer than all. With every answer but `WriteFault` that count stays as it was.
-pub fn cascade<K: Sink>(
+pub fn cascade<C: Crew, K: Sink>(
     alloc: Global,
+    crew: &C,
     teller: &Teller<'_>,
     systems: &[System],
     start: Graph,
     sink: &mut K,
 ) -> Status
+    requires crew { C.ready crew.now }
     requires limit { IsLimit teller.now.limit }
     requires named { AreSystemsNamed (length teller.now.names.now) systems.now }
     requires accepted { AreAccepted (map grammar_of systems.now) }
@@ -40,7 +43,7 @@ pub fn cascade<K: Sink>(
 {
     let mut graph = start;
     for system in systems {
-        let Ok(told) = teller.tell(alloc, system, &graph) else {
+        let Ok(told) = teller.tell(alloc, crew, system, &graph) else {
             return Status::Memory;
         };
         let Told { end, text } = told;

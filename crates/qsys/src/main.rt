@@ -64,7 +64,7 @@ fn words_of<R: Env + AllocGlobal>(rt: &R) -> Result<Vec<String>, WordsEnd> {
 
 fn main(rt: HostRuntime) -> ExitCode {
     let status = match words_of(&rt) {
-        Ok(words) => run_over(rt.alloc(), &words, rt.reader(), io::writer(&rt)).status,
+        Ok(words) => run_over(&rt, rt.alloc(), &words, rt.reader(), io::writer(&rt)).status,
         Err(WordsEnd::Usage) => refuse_over(io::writer(&rt)).status,
         Err(WordsEnd::Memory) => Status::Memory,
     };

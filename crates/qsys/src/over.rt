@@ -12,9 +12,11 @@ ghost use Rattle.qsys.specs.Calls.{AnswersWords, IsAnswerOfMade, TellsReadFaults
 
 use crate::status::Status;
 use crate::top::{qsys, write_usage};
-use qs_io::{StdSink, StdSource, TracedSink};
+use qs_io::{OpenGate, StdSink, StdSource, TracedSink};
 use std::alloc::Global;
 use std::io::{Read, Write};
+use std::sync::Wait;
+use std::thread::Threads;
 
 /// A run that has ended: its status, and the reader and the writer that it had, with what its reads gave and what its
 /// writes took.
@@ -25,14 +27,15 @@ pub struct EndedRun<R, W> {
     pub sink: TracedSink<StdSink<W>>,
 }
 
-/// Does what `qsys` does, over this reader and this writer.
+/// Does what `qsys` does, over this reader and this writer, and with a gate that holds no worker.
 ///
 /// Whatever bytes the reads of this run gave, from the first to the last, the bytes that its writes took, from the
 /// first to the last, are exactly the text that is defined for the job and these bytes, with its status; or a proper
 /// prefix of it where the writer failed; or nothing or its first blocks, each of them whole, where memory was wanting;
 /// or nothing where the reader failed or gave more bytes than a text may have. Where a whole text was written, the last
 /// read said that the input has ended, and neither the reader nor the writer failed.
-pub fn run_over<R: Read, W: Write>(
+pub fn run_over<T: Threads + Wait + Sync, R: Read, W: Write>(
+    rt: &T,
     alloc: Global,
     words: &[String],
     reader: R,
@@ -65,7 +68,7 @@ pub fn run_over<R: Read, W: Write>(
 {
     let mut source = StdSource::new(reader);
     let mut sink = TracedSink::new(StdSink::new(writer));
-    let status = qsys(alloc, words, &mut source, &mut sink);
+    let status = qsys(rt, alloc, words, &mut source, &mut sink, &OpenGate);
     EndedRun {
         status,
         source,

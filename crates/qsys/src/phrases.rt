@@ -14,21 +14,24 @@ use crate::phrasing::{LineEnd, PhraseTeller};
 use crate::status::Status;
 use qs_deck::WordLines;
 use qs_io::{Sink, write_all};
+use qs_worker::Crew;
 use std::alloc::Global;
 
-/// Runs the grammars on each line of words, and writes the block of each, whole and at once, when it has ended. Lines
-/// count from 1.
+/// Runs the grammars on each line of words, and writes the block of each, whole and at once, when it has ended. The
+/// crew makes the runs. Lines count from 1.
 ///
 /// `Done` and `Limit` come where the whole text was written: `Limit` where some line met the limit. `WriteFault` comes
 /// only where the sink's count of faults rose; a proper prefix of the text was written then. `Memory` comes where
 /// memory was wanting; the first blocks were written then, each of them whole, and fewer than all. With every answer
 /// but `WriteFault` that count stays as it was.
-pub fn phrases<K: Sink>(
+pub fn phrases<C: Crew, K: Sink>(
     alloc: Global,
+    crew: &C,
     teller: &PhraseTeller<'_>,
     lines: &WordLines,
     sink: &mut K,
 ) -> Status
+    requires crew { C.ready crew.now }
     requires limit { IsLimit teller.now.limit }
     requires readings { 1 ≤ teller.now.readings }
     requires named { AreSystemsNamed (length teller.now.names.now) teller.now.systems.now }
@@ -43,7 +46,7 @@ pub fn phrases<K: Sink>(
 {
     let mut status = Status::Done;
     for index in 0..lines.len() {
-        let Ok(told) = teller.tell(alloc, index + 1, lines.line(index)) else {
+        let Ok(told) = teller.tell(alloc, crew, index + 1, lines.line(index)) else {
             return Status::Memory;
         };
         let Ok(()) = write_all(sink, &told.text) else {

@@ -15,11 +15,12 @@ ghost use Rattle.qsys.specs.working.Phrasing.{IsBlockOf, IsLineEnd, IsLineEndNam
 
 use crate::blocks::append_limit;
 use crate::reading_lines::append_readings;
-use qs_cascade::{StageEnd, stage_alone};
+use qs_cascade::{StageEnd, stage_by};
 use qs_deck::System;
 use qs_graph::Graph;
 use qs_phrase::linear;
 use qs_tree::{Label, Names};
+use qs_worker::Crew;
 use std::alloc::{AllocError, Global};
 
 /// What is the same for all lines of words: the names of the labels, the grammars, the limit on the firings of each,
@@ -48,13 +49,16 @@ pub struct ToldPhrase {
 }
 
 impl PhraseTeller<'_> {
-    /// Runs the grammars on the line of these words, and tells what they leave in a block with this number.
-    pub fn tell(
+    /// Runs the grammars on the line of these words, and tells what they leave in a block with this number. The crew
+    /// makes the runs.
+    pub fn tell<C: Crew>(
         &self,
         alloc: Global,
+        crew: &C,
         number: usize,
         words: &[Label],
     ) -> Result<ToldPhrase, AllocError>
+        requires crew { C.ready crew.now }
         requires limit { IsLimit self.now.limit }
         requires readings { 1 ≤ self.now.readings }
         requires named { AreSystemsNamed (length self.now.names.now) self.now.systems.now }
@@ -67,14 +71,15 @@ impl PhraseTeller<'_> {
             (map grammar_of self.now.systems.now) number words.now told.end told.text.items) }
     {
         let start = linear(alloc, words)?;
-        let end = self.run(alloc, start)?;
+        let end = self.run(alloc, crew, start)?;
         let mut text = phrase_line(alloc, number)?;
         self.append_end(alloc, &end, &mut text)?;
         Ok(ToldPhrase { end, text })
     }
 
     // Runs the grammars one after another, each on the graph that the one before it left.
-    fn run(&self, alloc: Global, start: Graph) -> Result<LineEnd, AllocError>
+    fn run<C: Crew>(&self, alloc: Global, crew: &C, start: Graph) -> Result<LineEnd, AllocError>
+        requires crew { C.ready crew.now }
         requires limit { IsLimit self.now.limit }
         requires named { AreSystemsNamed (length self.now.names.now) self.now.systems.now }
         requires accepted { AreAccepted (map grammar_of self.now.systems.now) }
@@ -84,7 +89,7 @@ impl PhraseTeller<'_> {
     {
         let mut graph = start;
         for system in self.systems {
-            let end = stage_alone(alloc, &system.rules, &graph, self.limit)?;
+            let end = stage_by(alloc, crew, &system.rules, &graph, self.limit)?;
             match end {
                 StageEnd::Left { graph: left, .. } => graph = left,
                 StageEnd::Empty { .. } => return Ok(LineEnd::Empty),

@@ -5,8 +5,9 @@ ghost use Rattle.qs_graphtext.specs.Texts.{graph_text};
 ghost use Rattle.qs_io.specs.Limits.{most_text_bytes};
 ghost use Rattle.qs_deck.specs.Decks.{grammar_of, IsDeckOf};
 ghost use Rattle.qs_deck.specs.Texts.{deck_text};
+ghost use Rattle.qs_worker.specs.Crews.{CanBeRun};
 ghost use Rattle.qsys.specs.Words.{IsLimit};
-ghost use Rattle.qsys.specs.Defined.{Reads, ReadsDeck};
+ghost use Rattle.qsys.specs.Defined.{Reads, ReadsDeck, IsForOneWorker};
 ghost use Rattle.qsys.specs.Answers.{EndsAsDefined, IsOfWholeText};
 ghost use Rattle.qsys.specs.Calls.{DoesJob, HasCause, TellsWriteFaults};
 ghost use Rattle.qsys.specs.working.Cascading.{DeliversCascade, IsAnswered, IsWritten};
@@ -21,9 +22,14 @@ use crate::status::Status;
 use crate::summaries::{made_end, status_of, summary};
 use crate::telling::{Teller, Telling};
 use qs_deck::{Deck, DeckEnd, read_deck, read_phrases, write_deck};
+use qs_graph::Graph;
 use qs_graphtext::write_graph;
-use qs_io::{ReadEnd, Sink, Source, read_all, write_all};
+use qs_io::{Gate, ReadEnd, Sink, Source, read_all, write_all};
+use qs_pattern::Rule;
+use qs_worker::{ByCall, Crew, OneWorker, saturate};
 use std::alloc::{AllocError, Global};
+use std::sync::Wait;
+use std::thread::Threads;
 
 /// The text of the deck.
 fn deck_text(alloc: Global, deck: &Deck) -> Result<Vec<u8>, AllocError>
@@ -61,13 +67,15 @@ fn write_text<K: Sink>(sink: &mut K, text: Result<Vec<u8>, AllocError>, status: 
 }
 
 /// Runs the grammars of the deck on its graph, and writes what is told of each; `cascade` tells the answers.
-fn run_deck<K: Sink>(
+fn run_deck<C: Crew, K: Sink>(
     alloc: Global,
+    crew: &C,
     deck: Deck,
     limit: u32,
     telling: Telling,
     sink: &mut K,
 ) -> Status
+    requires crew { C.ready crew.now }
     requires limit { IsLimit limit }
     requires deck { (bytes : List ℕ) × IsDeckOf bytes deck.version deck.names (map grammar_of deck.systems.items)
         deck.graph }
@@ -86,12 +94,19 @@ fn run_deck<K: Sink>(
         limit,
         telling,
     };
-    cascade(alloc, &teller, &systems, graph, sink)
+    cascade(alloc, crew, &teller, &systems, graph, sink)
 }
 
 /// Does the job, which reads a deck, with the text that was read. `Memory` comes where memory was wanting: before
 /// anything was written, or with the first blocks of the text that is defined, fewer than all.
-fn answer_deck<K: Sink>(alloc: Global, job: &Job, bytes: &[u8], sink: &mut K) -> Status
+fn answer_deck<C: Crew, K: Sink>(
+    alloc: Global,
+    crew: &C,
+    job: &Job,
+    bytes: &[u8],
+    sink: &mut K,
+) -> Status
+    requires crew { C.ready crew.now }
     requires limit { IsLimit job.now.limit }
     requires reads { ReadsDeck job.now.command }
     requires bytes { length bytes.now ≤ most_text_bytes }
@@ -107,8 +122,8 @@ fn answer_deck<K: Sink>(alloc: Global, job: &Job, bytes: &[u8], sink: &mut K) ->
         Err(DeckEnd::Memory) => return Status::Memory,
     };
     match job.command {
-        Command::Run => run_deck(alloc, deck, job.limit, Telling::Blocks, sink),
-        Command::Explain => run_deck(alloc, deck, job.limit, Telling::Supports, sink),
+        Command::Run => run_deck(alloc, crew, deck, job.limit, Telling::Blocks, sink),
+        Command::Explain => run_deck(alloc, crew, deck, job.limit, Telling::Supports, sink),
         Command::Check => write_text(sink, deck_text(alloc, &deck), Status::Done),
         Command::Graph => write_text(sink, graph_text(alloc, &deck), Status::Done),
         Command::Levels => {
@@ -124,7 +139,14 @@ fn answer_deck<K: Sink>(alloc: Global, job: &Job, bytes: &[u8], sink: &mut K) ->
 
 /// Runs the grammars of a phrase text on its lines of words, with the text that was read. `Memory` comes where memory
 /// was wanting: before anything was written, or with the first blocks of the text that is defined, fewer than all.
-fn answer_phrases<K: Sink>(alloc: Global, job: &Job, bytes: &[u8], sink: &mut K) -> Status
+fn answer_phrases<C: Crew, K: Sink>(
+    alloc: Global,
+    crew: &C,
+    job: &Job,
+    bytes: &[u8],
+    sink: &mut K,
+) -> Status
+    requires crew { C.ready crew.now }
     requires limit { IsLimit job.now.limit }
     requires readings { 1 ≤ job.now.readings }
     requires command { job.now.command ≡ Command.Phrase }
@@ -146,11 +168,18 @@ fn answer_phrases<K: Sink>(alloc: Global, job: &Job, bytes: &[u8], sink: &mut K)
         limit: job.limit,
         readings: job.readings,
     };
-    phrases(alloc, &teller, &read.lines, sink)
+    phrases(alloc, crew, &teller, &read.lines, sink)
 }
 
 /// Does the job with the text that was read.
-fn answer<K: Sink>(alloc: Global, job: &Job, bytes: &[u8], sink: &mut K) -> Status
+fn answer<C: Crew, K: Sink>(
+    alloc: Global,
+    crew: &C,
+    job: &Job,
+    bytes: &[u8],
+    sink: &mut K,
+) -> Status
+    requires crew { C.ready crew.now }
     requires limit { IsLimit job.now.limit }
     requires readings { 1 ≤ job.now.readings }
     requires reads { Reads job.now.command }
@@ -160,14 +189,15 @@ fn answer<K: Sink>(alloc: Global, job: &Job, bytes: &[u8], sink: &mut K) -> Stat
     ensures writes { TellsWriteFaults (K.faults sink.old) (K.faults sink.new) result }
 {
     match job.command {
-        Command::Phrase => answer_phrases(alloc, job, bytes, sink),
-        _ => answer_deck(alloc, job, bytes, sink),
+        Command::Phrase => answer_phrases(alloc, crew, job, bytes, sink),
+        _ => answer_deck(alloc, crew, job, bytes, sink),
     }
 }
 
 /// Runs the made deck of the job's size, and writes a line that tells what is left. `Memory` comes where memory was
 /// wanting.
-fn tell_made<K: Sink>(alloc: Global, job: &Job, sink: &mut K) -> Status
+fn tell_made<C: Crew, K: Sink>(alloc: Global, crew: &C, job: &Job, sink: &mut K) -> Status
+    requires crew { C.ready crew.now }
     requires limit { IsLimit job.now.limit }
     requires size { job.now.size ≤ 13 }
     requires command { job.now.command ≡ Command.Made }
@@ -176,7 +206,7 @@ fn tell_made<K: Sink>(alloc: Global, job: &Job, sink: &mut K) -> Status
         ⊎ (result ≡ Status.WriteFault) ⊎ (result ≡ Status.Memory) }
     ensures writes { TellsWriteFaults (K.faults sink.old) (K.faults sink.new) result }
 {
-    let Ok(end) = made_end(alloc, job.size, job.limit) else {
+    let Ok(end) = made_end(alloc, crew, job.size, job.limit) else {
         return Status::Memory;
     };
     let status = status_of(&end);
@@ -185,12 +215,14 @@ fn tell_made<K: Sink>(alloc: Global, job: &Job, sink: &mut K) -> Status
 
 /// Reads the source to its end and what its bytes mean, a deck or a phrase text, and writes to the sink what is
 /// defined; `run_still` tells the answers.
-fn read_and_answer<S: Source, K: Sink>(
+fn read_and_answer<C: Crew, S: Source, K: Sink>(
     alloc: Global,
+    crew: &C,
     job: &Job,
     source: &mut S,
     sink: &mut K,
 ) -> Status
+    requires crew { C.ready crew.now }
     requires limit { IsLimit job.now.limit }
     requires readings { 1 ≤ job.now.readings }
     requires reads { Reads job.now.command }
@@ -207,12 +239,43 @@ fn read_and_answer<S: Source, K: Sink>(
         Err(ReadEnd::TooLong) => return Status::TooLong,
         Err(ReadEnd::Memory) => return Status::Memory,
     };
-    answer(alloc, job, &bytes, sink)
+    answer(alloc, crew, job, &bytes, sink)
+}
+
+/// Does the job, of which the crew makes the runs; `run_still` tells the answers. It returns if the crew does.
+fn run_by<C: Crew, S: Source, K: Sink>(
+    alloc: Global,
+    crew: &C,
+    job: &Job,
+    source: &mut S,
+    sink: &mut K,
+) -> Status
+    requires crew { C.ready crew.now }
+    requires limit { IsLimit job.now.limit }
+    requires size { job.now.size ≤ 13 }
+    requires readings { 1 ≤ job.now.readings }
+
+    ensures headline { (bytes : List ℕ) → S.left source.old ≡ Some bytes
+        → EndsAsDefined job.now bytes (K.written sink.old) (K.written sink.new) result }
+    ensures does_job { DoesJob S.Source K.Sink job.now source.old source.new sink.old sink.new result }
+    ensures cause { HasCause S.Source K.Sink source.old source.new sink.old sink.new result }
+    ensures not_usage { result ≢ Status.Usage }
+{
+    match job.command {
+        Command::Run
+        | Command::Check
+        | Command::Graph
+        | Command::Explain
+        | Command::Levels
+        | Command::Phrase => read_and_answer(alloc, crew, job, source, sink),
+        Command::Made => tell_made(alloc, crew, job, sink),
+    }
 }
 
 /// Does the job: reads the source to its end and the deck that it means, and writes to the sink what is defined; or
 /// makes a deck, and reads nothing. The limit is from 1 to 1,000,000, the size from 0 to 13, and the number of readings
-/// from 1 on. One worker does it, whatever the job says of workers. It always returns, and never waits.
+/// from 1 on. The job is for one worker, or has nothing that workers do, as `check`, `graph` and `levels`. It always
+/// returns, and never waits.
 ///
 /// - `run` runs the grammars one after another and writes what each leaves, when it has ended, and `explain` tells
 ///   behind each graph that is left where its arcs come from; `levels` tells of each grammar the levels that bound its
@@ -239,6 +302,7 @@ pub fn run_still<S: Source, K: Sink>(
     requires limit { IsLimit job.now.limit }
     requires size { job.now.size ≤ 13 }
     requires readings { 1 ≤ job.now.readings }
+    requires workers { IsForOneWorker job.now }
 
     // Where the source tells its bytes, exactly what is defined for them is written; only too many bytes, a fault that
     // is counted or want of memory stops it, at a prefix, and want of memory between two blocks.
@@ -251,13 +315,39 @@ pub fn run_still<S: Source, K: Sink>(
     ensures cause { HasCause S.Source K.Sink source.old source.new sink.old sink.new result }
     ensures not_usage { result ≢ Status.Usage }
 {
-    match job.command {
-        Command::Run
-        | Command::Check
-        | Command::Graph
-        | Command::Explain
-        | Command::Levels
-        | Command::Phrase => read_and_answer(alloc, job, source, sink),
-        Command::Made => tell_made(alloc, job, sink),
-    }
+    run_by(alloc, &OneWorker, job, source, sink)
+}
+
+/// Does what `run_still` does, for every job, by as many workers as it says, at least 1, as threads beside each other,
+/// which pass the gate with each arc that they claim. Whatever they do first, the same is written. It may wait, also
+/// forever.
+pub fn run_with<S: Source, K: Sink, R: Threads + Wait + Sync, G: Gate + Sync>(
+    rt: &R,
+    alloc: Global,
+    job: &Job,
+    source: &mut S,
+    sink: &mut K,
+    gate: &G,
+) -> Status
+    requires limit { IsLimit job.now.limit }
+    requires size { job.now.size ≤ 13 }
+    requires readings { 1 ≤ job.now.readings }
+    requires workers { 1 ≤ job.now.workers }
+
+    // Where the source tells its bytes, exactly what is defined for them is written; only too many bytes, a fault that
+    // is counted or want of memory stops it, at a prefix, and want of memory between two blocks.
+    ensures headline { (bytes : List ℕ) → S.left source.old ≡ Some bytes
+        → EndsAsDefined job.now bytes (K.written sink.old) (K.written sink.new) result }
+    // The same of the bytes that the reads of this call gave; with no fault and not too many bytes, only memory can be
+    // wanting; and how far each command reads.
+    ensures does_job { DoesJob S.Source K.Sink job.now source.old source.new sink.old sink.new result }
+    // A fault is answered exactly where it was counted, and a text is too long exactly where too many bytes were taken.
+    ensures cause { HasCause S.Source K.Sink source.old source.new sink.old sink.new result }
+    ensures not_usage { result ≢ Status.Usage }
+{
+    let workers = job.workers;
+    let run = |alloc: Global, rules: &[Rule], start: &Graph, limit: u32|
+        requires { CanBeRun rules.now start.now limit × (1 ≤ workers) }
+    { saturate(rt, alloc, rules, start, limit, workers, gate) };
+    run_by(alloc, &ByCall { run }, job, source, sink)
 }

@@ -11,18 +11,25 @@ ghost use Rattle.qsys.specs.Answers.{IsOfWholeText};
 
 use crate::blocks::{append_limit, append_number};
 use crate::status::Status;
-use qs_cascade::{StageEnd, stage_alone};
+use qs_cascade::{StageEnd, stage_by};
 use qs_deck::made;
+use qs_worker::Crew;
 use std::alloc::{AllocError, Global};
 
-/// What the grammar of the made deck of this size leaves of its graph.
-pub fn made_end(alloc: Global, size: u32, limit: u32) -> Result<StageEnd, AllocError>
+/// What the grammar of the made deck of this size leaves of its graph. The crew makes the run.
+pub fn made_end<C: Crew>(
+    alloc: Global,
+    crew: &C,
+    size: u32,
+    limit: u32,
+) -> Result<StageEnd, AllocError>
+    requires crew { C.ready crew.now }
     requires limit { IsLimit limit }
     requires size { size ≤ 13 }
     ensures { IfOk result (λ end. IsStageEnd ((made_grammar size).rules) (made_graph size) limit end) }
 {
     let deck = made(alloc, size)?;
-    stage_alone(alloc, &deck.systems[0].rules, &deck.graph, limit)
+    stage_by(alloc, crew, &deck.systems[0].rules, &deck.graph, limit)
 }
 
 /// The status of a run whose last grammar ends so.

@@ -11,11 +11,12 @@ ghost use Rattle.qsys.specs.working.Telling.{IsAppended, IsSupportIn, IsTold};
 
 use crate::blocks::block;
 use qs_canon::Closure;
-use qs_cascade::{StageEnd, closure_alone, end_behind, stage_alone};
+use qs_cascade::{StageEnd, closure_by, end_behind, stage_by};
 use qs_deck::System;
 use qs_explain::{explain, write_support};
 use qs_graph::Graph;
 use qs_tree::Names;
+use qs_worker::Crew;
 use std::alloc::{AllocError, Global};
 
 /// What is told of each grammar.
@@ -44,8 +45,15 @@ pub struct Told {
 }
 
 impl Teller<'_> {
-    /// Runs the grammar on the graph, and tells what it left.
-    pub fn tell(&self, alloc: Global, system: &System, graph: &Graph) -> Result<Told, AllocError>
+    /// Runs the grammar on the graph, and tells what it left. The crew makes the run.
+    pub fn tell<C: Crew>(
+        &self,
+        alloc: Global,
+        crew: &C,
+        system: &System,
+        graph: &Graph,
+    ) -> Result<Told, AllocError>
+        requires crew { C.ready crew.now }
         requires limit { IsLimit self.now.limit }
         requires arcs { length graph.now.arcs + most_patterns * self.now.limit ≤ 2 ^ 32 - 1 }
         requires nodes { graph.now.nodes + most_patterns * self.now.limit ≤ 2 ^ 32 - 1 }
@@ -58,13 +66,20 @@ impl Teller<'_> {
             system.now.rules.items graph.now told.end told.text.items) }
     {
         match self.telling {
-            Telling::Blocks => self.tell_block(alloc, system, graph),
-            Telling::Supports => self.tell_support(alloc, system, graph),
+            Telling::Blocks => self.tell_block(alloc, crew, system, graph),
+            Telling::Supports => self.tell_support(alloc, crew, system, graph),
         }
     }
 
     // Tells its block.
-    fn tell_block(&self, alloc: Global, system: &System, graph: &Graph) -> Result<Told, AllocError>
+    fn tell_block<C: Crew>(
+        &self,
+        alloc: Global,
+        crew: &C,
+        system: &System,
+        graph: &Graph,
+    ) -> Result<Told, AllocError>
+        requires crew { C.ready crew.now }
         requires limit { IsLimit self.now.limit }
         requires arcs { length graph.now.arcs + most_patterns * self.now.limit ≤ 2 ^ 32 - 1 }
         requires nodes { graph.now.nodes + most_patterns * self.now.limit ≤ 2 ^ 32 - 1 }
@@ -76,18 +91,20 @@ impl Teller<'_> {
         ensures told { IfOk result (λ told. IsTold Telling.Blocks self.now.limit self.now.names.now system.now.name
             system.now.rules.items graph.now told.end told.text.items) }
     {
-        let end = stage_alone(alloc, &system.rules, graph, self.limit)?;
+        let end = stage_by(alloc, crew, &system.rules, graph, self.limit)?;
         let text = block(alloc, self.names, system.name, self.limit, &end)?;
         Ok(Told { end, text })
     }
 
     // Tells its block, and behind that of a graph the support of the closure.
-    fn tell_support(
+    fn tell_support<C: Crew>(
         &self,
         alloc: Global,
+        crew: &C,
         system: &System,
         graph: &Graph,
     ) -> Result<Told, AllocError>
+        requires crew { C.ready crew.now }
         requires limit { IsLimit self.now.limit }
         requires arcs { length graph.now.arcs + most_patterns * self.now.limit ≤ 2 ^ 32 - 1 }
         requires nodes { graph.now.nodes + most_patterns * self.now.limit ≤ 2 ^ 32 - 1 }
@@ -99,7 +116,7 @@ impl Teller<'_> {
         ensures told { IfOk result (λ told. IsTold Telling.Supports self.now.limit self.now.names.now system.now.name
             system.now.rules.items graph.now told.end told.text.items) }
     {
-        let closure = closure_alone(alloc, &system.rules, graph, self.limit)?;
+        let closure = closure_by(alloc, crew, &system.rules, graph, self.limit)?;
         let end = end_behind(alloc, &closure)?;
         let mut text = block(alloc, self.names, system.name, self.limit, &end)?;
         append_support(alloc, self.names, &closure, &end, &mut text)?;

@@ -13,7 +13,7 @@ use Rattle.qsys.specs.declared.status.Status.{Status}
 use Rattle.qsys.specs.declared.status.Status.TheVariants.{WriteFault, Memory}
 use Rattle.qsys.specs.declared.telling.Telling.{Telling}
 use Rattle.qsys.specs.Defined.{IsDefined, status_of}
-use Rattle.qsys.specs.Answers.{KeepsToBlocks}
+use Rattle.qsys.specs.Answers.{KeepsToBlocks, WritesProperPrefix}
 use Rattle.qsys.specs.working.Telling.{Begins, Tells}
 
 -- Of a text that is to be written with this status, all was written, and the answer is the status; or a proper
@@ -28,6 +28,11 @@ abbrev pub IsWritten : {E : Type 0} → Result (Vec ℕ Global) E → Option (Li
     → Type 0
 IsWritten (Ok text) old new status answer = Delivers old new text.items status answer
 IsWritten (Err e) old new status answer = (answer ≡ Memory) × (new ≡ old)
+
+-- Nothing was written, or a proper prefix of the text that is defined. (Where nothing was written, no clause says
+-- that a text is defined: memory may have been wanting before it was found.)
+abbrev pub KeepsToDefined : Job → List ℕ → Option (List ℕ) → Option (List ℕ) → Type 0
+KeepsToDefined job bytes old new = (new ≡ old) ⊎ WritesProperPrefix job bytes old new
 
 -- Memory was wanting for a block of this text: the blocks in front of it were written, of which `Begun` holds.
 pub record StopsBetween (Begun : List ℕ → Type 0) (text : List ℕ) (old new : Option (List ℕ)) (answer : Status)

@@ -1,7 +1,7 @@
 -- What a grammar leaves, as the code has it and as the definitions have it.
 use Rattle.qs_clean.specs.Cascades.{Left, a_graph, no_arc, over, Ending, all_done, by_limit}
-use Rattle.qs_cascade.specs.declared.stage.StageEnd.{StageEnd}
-use Rattle.qs_cascade.specs.declared.stage.StageEnd.TheVariants as end
+use Rattle.qs_cascade.specs.declared.stages.StageEnd.{StageEnd}
+use Rattle.qs_cascade.specs.declared.stages.StageEnd.TheVariants as end
 
 -- What is left by a grammar that ends so.
 abbrev pub left_of : StageEnd → Left

@@ -6,8 +6,8 @@ use Rattle.qs_graph.specs.Graphs.{QGraph}
 use Rattle.qs_canon.specs.Closures.{ClosureOf}
 use Rattle.qs_clean.specs.Cascades.{Ending}
 use Rattle.qs_cascade.specs.Stages.{LeavesGraph}
-use Rattle.qs_cascade.specs.declared.stage.StageEnd.{StageEnd}
-use Rattle.qs_cascade.specs.declared.stage.StageEnd.TheVariants as end
+use Rattle.qs_cascade.specs.declared.stages.StageEnd.{StageEnd}
+use Rattle.qs_cascade.specs.declared.stages.StageEnd.TheVariants as end
 use Rattle.qs_explain.specs.Support.{SupportOf, IsSupport}
 use Rattle.qs_explain.specs.Texts.{support_text}
 use Rattle.qs_deck.specs.Decks.{Grammar}

@@ -10,19 +10,19 @@ use Rattle.qsys.proofs.top.qsys.Goals as goal
 -- a job that is read from the words is the one that they give
 pub returns-in-Ok-clause-headline : goal.returns-in-Ok-clause-headline
 returns-in-Ok-clause-headline g c = λ job is bytes told.
-    subst (λ (j : Job). EndsAsDefined j bytes (g.K.Sink.written c.args.sink.now) (g.K.Sink.written c.run_still.new.sink) c.run_still.result)
+    subst (λ (j : Job). EndsAsDefined j bytes (g.K.Sink.written c.args.sink.now) (g.K.Sink.written c.do_job.new.sink) c.do_job.result)
     (same_job (map string_bytes c.args.words.now) c.in-Ok.job job c.in-Ok.ensures.job is)
-    (c.run_still.ensures.headline bytes told)
+    (c.do_job.ensures.headline bytes told)
 
 pub returns-in-Ok-clause-does_job : goal.returns-in-Ok-clause-does_job
 returns-in-Ok-clause-does_job g c = λ job is.
-    subst (λ (j : Job). DoesJob g.S.Source g.K.Sink j c.args.source.now c.run_still.new.source c.args.sink.now c.run_still.new.sink c.run_still.result)
+    subst (λ (j : Job). DoesJob g.S.Source g.K.Sink j c.args.source.now c.do_job.new.source c.args.sink.now c.do_job.new.sink c.do_job.result)
     (same_job (map string_bytes c.args.words.now) c.in-Ok.job job c.in-Ok.ensures.job is)
-    c.run_still.ensures.does_job
+    c.do_job.ensures.does_job
 
 pub returns-in-Ok-clause-words : goal.returns-in-Ok-clause-words
 returns-in-Ok-clause-words g c = record {
-  usage = λ told. absurd (c.run_still.ensures.not_usage told);
+  usage = λ told. absurd (c.do_job.ensures.not_usage told);
   refused_words = λ refused. absurd (not_both (map string_bytes c.args.words.now) c.in-Ok.job c.in-Ok.ensures.job refused);
 }
 

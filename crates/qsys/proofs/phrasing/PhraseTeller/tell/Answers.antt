@@ -7,12 +7,12 @@ use Rattle.qsys.proofs.PhraseRuns.{words_can_go_on}
 use Rattle.qsys.proofs.phrasing.PhraseTeller.tell.Goals as goal
 
 pub run-requires-clause-can_go_on : goal.run-requires-clause-can_go_on
-run-requires-clause-can_go_on c =
+run-requires-clause-can_go_on g c =
     subst (λ (G : QGraph). CanGoOn c.args.self.now.names.now G (length c.args.self.now.systems.now)) (sym c.in_ok-start.ensures)
     (words_can_go_on c.args.self.now.limit c.args.self.now.readings c.args.self.now.names.now c.args.words.now (length c.args.self.now.systems.now) c.requires.some c.requires.few c.requires.words c.requires.systems)
 
 pub returns : goal.returns
-returns c =
+returns g c =
     let (told, tells, same) = c.in_ok-append_end.ensures in (
       told,
       record {

@@ -1,3 +1,0 @@
--- Working definitions: private functions and proofs need them, and no public contract cites one.
-pub mod Leaving
-pub mod Finding

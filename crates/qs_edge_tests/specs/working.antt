@@ -1,0 +1,2 @@
+-- Working definitions: tests need them.
+pub mod Boards

@@ -1,0 +1,19 @@
+use denote.Param.Send.{sendable}
+use Rattle.std.proofs.Common.{rules, subst}
+use Rattle.std.proofs.Crossing as heap
+use Rattle.qs_join.proofs.heads.Heads.TheSendSync as heads
+use Rattle.qs_board.specs.Seats.{IsSeatOf, SeesEnd}
+use Rattle.qs_board.proofs.Crossing.{board_sync, rule_sync}
+use Rattle.qs_worker.proofs.Working.{still_all}
+use Rattle.qs_worker.proofs.several.work_beside.Goals as goal
+
+pub returns-clause-ended : goal.returns-clause-ended
+returns-clause-ended g c =
+    still_all (λ p. IsSeatOf c.args.board.now p × SeesEnd c.args.board.now p) c.for_each_mut.new.s c.args.passes.now.items c.args.passes.now.len
+    (search rules)
+    (λ k d l.
+    let at = (c.for_each_mut.ensures k d (search rules)).1 in
+    subst (λ p. IsSeatOf c.args.board.now p × SeesEnd c.args.board.now p) at.left (search rules))
+
+pub for_each_mut-requires-sync-F : goal.for_each_mut-requires-sync-F
+for_each_mut-requires-sync-F g c κs within = search (sendable, board_sync, rule_sync, heads.the_sync, heap.sync) depth 40

@@ -1,0 +1,11 @@
+use Rattle.qs_core.specs.Core.{IsFree}
+use Rattle.qs_turn.specs.Passes.{number_of}
+use Rattle.qs_board.specs.Seats.{board_base, IsSeatOf, Sees, SeesArcs}
+use Rattle.qs_worker.proofs.several.work_on.Given as goal
+
+abbrev pub invariant-loop : goal.invariant-loop
+invariant-loop g l = record {
+  own : IsSeatOf l.board l.pass;
+  arcs : SeesArcs l.board l.pass l.view;
+  free : Sees l.board l.pass (λ S. IsFree (board_base l.board) S (number_of l.pass));
+}
