@@ -32,7 +32,8 @@ Lines of devices:
     output writes N    the bytes come in N writes
     memory N           there are N KiB of address space
 
-Where 'check' writes a deck, that deck is written by 'check' again as the same bytes.
+Where 'check' writes a deck, that deck is written by 'check' again as the same bytes. What runs grammars on a text that isn't
+long, and has no word about workers and no device, writes the same with each number of workers that is tried.
 """
 import os
 import re
@@ -134,6 +135,13 @@ def cases_of(path):
     return cases
 
 
+# The commands that run grammars on a text, the numbers of workers that are tried beside the one that is meant where none is
+# given, and how many bytes a text has at most with which they are tried.
+RUNNING = (b"run", b"explain", b"phrase")
+WORKERS = (b"1", b"2", b"8", b"32")
+NOT_LONG = 10000
+
+
 def runs_of(case):
     """The runs of a case: its words, the bytes that are wanted, and the status."""
     if case.refusal:
@@ -143,6 +151,10 @@ def runs_of(case):
         return
     wanted = case.text if case.same else case.wanted
     yield case.words, case.text, wanted, case.status
+    if case.words[:1] and case.words[0] in RUNNING and case.status != 1 and not case.devices and len(case.text) <= NOT_LONG:
+        if not any(word.startswith(b"--workers") for word in case.words):
+            for workers in WORKERS:
+                yield case.words + [b"--workers", workers], case.text, wanted, case.status
     if case.words[:1] == [b"check"] and case.status == 0 and wanted != case.text:
         yield case.words, wanted, wanted, 0
 

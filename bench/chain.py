@@ -31,7 +31,7 @@ def run(text):
         if child == 0:
             os.dup2(source.fileno(), 0)
             os.dup2(os.open(os.devnull, os.O_WRONLY), 1)
-            os.execv(PROGRAM, [PROGRAM, "run", "--limit", "100000"])
+            os.execv(PROGRAM, [PROGRAM, "run", "--workers", "1", "--limit", "100000"])
         _, status, usage = os.wait4(child, 0)
         if status != 0:
             sys.exit("the program ended with status %d" % os.waitstatus_to_exitcode(status))

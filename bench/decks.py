@@ -22,8 +22,8 @@ decks are run. The kinds of decks to close, with n for a number:
     cascade  16 grammars behind each other, each of which rewrites each of n small trees: 16 n firings
     phrases  the same on n trees with twelve trees below their roots
 
-Each is run by `run --limit 100000`, or 1000000 where it needs more; how many firings there were and how many arcs are left is compared with what is known by
-counting. Texts of equal rules, and of rules of which each has a label of its own, go through `check`, and long graphs through
+Each is run by `run --workers 1 --limit 100000`, or 1000000 where it needs more; how many firings there were and how many arcs are
+left is compared with what is known by counting. Texts of equal rules, and of rules of which each has a label of its own, go through `check`, and long graphs through
 `graph`. For each size there are the least seconds of RUNS (3) runs, user and system time together, the peak memory, and the
 seconds for each firing (for each n in lexicon and star), byte or arc, without those of a deck with one label, as a ratio to
 those of the smallest size of the kind in the same run: a linear program stays near 1.00 or below.
@@ -76,7 +76,7 @@ class Timer:
     def __init__(self, name, program, runs, orders, answers):
         self.name, self.program, self.runs = name, program, runs
         self.orders, self.answers = orders, answers
-        self.nothing = self.least(["run"], chain([], ["A"]))[0]
+        self.nothing = self.least(["run", "--workers", "1"], chain([], ["A"]))[0]
 
     def least(self, words, text):
         """The least seconds, the least peak memory in KiB, and what was written."""
@@ -189,7 +189,7 @@ CLOSED = (
 
 
 def run_within(firings):
-    return ["run", "--limit", "100000" if firings <= 100000 else "1000000"]
+    return ["run", "--workers", "1", "--limit", "100000" if firings <= 100000 else "1000000"]
 
 
 def closures(timers, kinds):

@@ -54,10 +54,10 @@
 
 (defconst qsys-font-lock-keywords
   `(("-SYSTEME-[ \t]*\\(\\sw+\\)" 1 font-lock-function-name-face)
-    (,(regexp-opt '("-SYSTEME-" "-GRAPHE-" "-FIN-" "-VERSION-")) . font-lock-keyword-face)
+    (,(regexp-opt '("-SYSTEME-" "-GRAPHE-" "-FIN-" "-PHRASES-" "-VERSION-")) . font-lock-keyword-face)
     (,(regexp-opt '("-DANS-" "-HORS-" "-NON-" "-ET-" "-OU-" "-EGAL-")) . font-lock-builtin-face)
     ("-UNIQUE-" . font-lock-preprocessor-face)
-    (,(regexp-opt '("-VIDE-" "-LIMITE-" "-REFUS-" "-FAIT-" "-NIVEAUX-")) . font-lock-warning-face)
+    (,(regexp-opt '("-VIDE-" "-LIMITE-" "-REFUS-" "-FAIT-" "-SUITE-" "-NIVEAUX-")) . font-lock-warning-face)
     ("-[1-9][0-9]*-" . font-lock-constant-face)
     ("\\_<[A-FI-NU-Z]\\*\\(?:[1-9][0-9]?\\)?" . font-lock-variable-name-face)
     ("\\_<[GHO-T]\\*" . font-lock-warning-face)
@@ -67,7 +67,8 @@
 
 (defun qsys--ends-p ()
   "Whether nothing goes on behind this line.
-It ends with a full stop, or with -GRAPHE- or -FIN-; a comment may follow."
+It ends with a full stop, or with -GRAPHE-, -FIN- or -PHRASES-; a comment may
+follow."
   (save-excursion
     (end-of-line)
     (let ((state (syntax-ppss)))
@@ -76,16 +77,21 @@ It ends with a full stop, or with -GRAPHE- or -FIN-; a comment may follow."
     (skip-chars-backward " \t" (line-beginning-position))
     (or (and (eq (char-before) ?.)
              (not (nth 3 (syntax-ppss))))
-        (looking-back "-\\(?:GRAPHE\\|FIN\\)-" (line-beginning-position)))))
+        (looking-back "-\\(?:GRAPHE\\|FIN\\|PHRASES\\)-" (line-beginning-position)))))
 
 (defun qsys--column ()
   "The column at which this line should begin."
   (save-excursion
     (beginning-of-line)
-    (if (looking-at "[ \t]*-\\(?:SYSTEME\\|GRAPHE\\|FIN\\|VERSION\\)-")
-        0
+    (cond
+     ((looking-at "[ \t]*-\\(?:SYSTEME\\|GRAPHE\\|FIN\\|PHRASES\\|VERSION\\)-")
+      0)
+     ;; Lines of words stay where they are.
+     ((save-excursion (re-search-backward "^-PHRASES-$" nil t))
+      (current-indentation))
+     (t
       (forward-comment (- (point)))
-      (if (or (bobp) (qsys--ends-p)) 0 qsys-indent-offset))))
+      (if (or (bobp) (qsys--ends-p)) 0 qsys-indent-offset)))))
 
 (defun qsys-indent-line ()
   "Indent this line: what goes on from the line before stands to the right."

@@ -1,6 +1,6 @@
 """What the tests share: the program, the examples, and programs that play its part.
 
-The tests ask the program that the variable QSYS names, or else that of the checkout. What the program of today hasn't
+The tests ask the program that the variable QSYS names, or else that of the checkout. What an older program hasn't
 got (`explain`, `levels`, `phrase`), and how a program fails, is shown by small programs that write defined bytes.
 """
 
@@ -23,7 +23,7 @@ if "QSYS" not in os.environ and BUILT.exists():
     os.environ["QSYS"] = str(BUILT)
 os.environ["QSYS"] = os.path.abspath(os.environ.get("QSYS", TOP / "qsys"))
 
-USAGE = "usage: qsys run|check|graph|made|explain|levels|phrase [--limit N] [--workers N] [--size N]\n"
+USAGE = "usage: qsys run|check|graph|made|explain|levels|phrase [--limit N] [--workers N] [--size N] [--readings N]\n"
 
 PLAYER = '''#!{python} -SE
 import sys
@@ -46,11 +46,11 @@ def example(name: str) -> bytes:
 
 
 def examples(command: Optional[str] = None) -> Iterator[Tuple[str, bytes, List[str], str, int]]:
-    """The examples: the name, the text, the words, what the program writes, and its status."""
+    """The examples of a command, or all that are decks: name, text, words, what the program writes, and its status."""
     for deck in sorted(EXAMPLES.glob("*.qs")):
         words = Path(f"{deck}.args").read_text().split()
         status = Path(f"{deck}.status")
-        if command in (None, words[0]):
+        if words[0] == command or (command is None and words[0] != "phrase"):
             wanted = Path(f"{deck}.stdout").read_bytes().decode()
             yield deck.stem, deck.read_bytes(), words, wanted, int(status.read_text()) if status.exists() else 0
 

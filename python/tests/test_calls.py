@@ -41,6 +41,13 @@ class OverExamples(unittest.TestCase):
                 spelled = radwelio.check(text)
                 self.assertEqual(radwelio.check(spelled), spelled, name)
 
+    def test_lines_of_words(self) -> None:
+        for name, text, words, wanted, _ in examples("phrase"):
+            grammars, _, lines = text.decode().partition("-PHRASES-\n")
+            readings = int(words[-1]) if "--readings" in words else None
+            phrases = radwelio.phrase(grammars, *lines.splitlines(), readings=readings)
+            self.assertEqual("".join(phrase.text for phrase in phrases), wanted, name)
+
     def test_a_deck_is_made(self) -> None:
         self.assertEqual(radwelio.made(3).text, "-FAIT- 3 8 13 1.\n")
         self.assertEqual(radwelio.made(3, limit=12), radwelio.Made(3, limit=12))

@@ -19,15 +19,19 @@ function s:Said(line)
   return substitute(substitute(said, '#.*$', '', ''), '\s\+$', '', '')
 endfunction
 
-" Whether nothing goes on behind this line: it ends with a full stop, or with -GRAPHE- or -FIN-.
+" Whether nothing goes on behind this line: it ends with a full stop, or with -GRAPHE-, -FIN- or -PHRASES-.
 function s:Ends(said)
-  return a:said =~# '\.$\|-\%(GRAPHE\|FIN\)-$'
+  return a:said =~# '\.$\|-\%(GRAPHE\|FIN\|PHRASES\)-$'
 endfunction
 
 function QsysIndent(number)
   let said = s:Said(getline(a:number))
-  if said =~# '^\s*-\%(SYSTEME\|GRAPHE\|FIN\|VERSION\)-'
+  if said =~# '^\s*-\%(SYSTEME\|GRAPHE\|FIN\|PHRASES\|VERSION\)-'
     return 0
+  endif
+  " Lines of words stay where they are.
+  if index(getline(1, a:number - 1), '-PHRASES-') >= 0
+    return -1
   endif
   let before = a:number - 1
   while before > 0 && s:Said(getline(before)) =~# '^\s*$'

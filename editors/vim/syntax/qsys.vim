@@ -20,10 +20,10 @@ syntax match qsysBadVariable /[G-HO-T]\*/
 
 " A node, and the words between two dashes.
 syntax match qsysNode /-[1-9]\d*-/
-syntax match qsysSection /-\%(SYSTEME\|GRAPHE\|FIN\|VERSION\)-/
+syntax match qsysSection /-\%(SYSTEME\|GRAPHE\|FIN\|PHRASES\|VERSION\)-/
 syntax match qsysCondition /-\%(DANS\|HORS\|NON\|ET\|OU\|EGAL\)-/
 syntax match qsysMark /-UNIQUE-/
-syntax match qsysAnswer /-\%(VIDE\|LIMITE\|REFUS\|FAIT\|NIVEAUX\)-/
+syntax match qsysAnswer /-\%(VIDE\|LIMITE\|REFUS\|FAIT\|SUITE\|NIVEAUX\)-/
 
 " The name of a grammar.
 syntax match qsysName /\%(-SYSTEME-\s*\)\@<=[[:alnum:]_'\x80-\U10FFFF]\+/
