@@ -14,7 +14,7 @@ cells_of-join (first_tree l k r) h =
     ap (λ xs. record { label = l; extent = suc (size k) } ∷ (cells_of k ++ xs)) (cells_of-join r h)
     ∙ ap (λ xs. record { label = l; extent = suc (size k) } ∷ xs) (sym (append_assoc (cells_of k) (cells_of r) (cells_of h)))
 
-trees-join : (g h : Forest) → trees (join g h) ≡ trees g ++ trees h
+pub trees-join : (g h : Forest) → trees (join g h) ≡ trees g ++ trees h
 trees-join no_tree h = refl
 trees-join (first_tree l k r) h = ap (λ ts. record { root = l; subtrees = k } ∷ ts) (trees-join r h)
 

@@ -1,5 +1,5 @@
 -- A list that begins with another one, to whose length it can be cut back.
-use Rattle.std.proofs.Common.{◌≡◌, ℕ, ◌≤◌, List, ◌++◌, length, take, sym, ap, ◌∙◌, arith, Result, OnErr, Ok, Err}
+use Rattle.std.proofs.Common.{◌≡◌, ℕ, ◌≤◌, List, ◌++◌, length, take, sym, ap, ◌∙◌, arith, Result, OnOk, OnErr, Ok, Err}
 use Rattle.std.proofs.Math.Seq.{take-append_seam}
 use Rattle.std.proofs.lemmas.List.{take-take, length-take}
 
@@ -18,6 +18,11 @@ kept-append start out now more k e =
 pub on_err : {T E P : Type 0} (r : Result T E) → P → OnErr r P
 on_err (Ok _) p = tt
 on_err (Err _) p = p
+
+-- a fact of a value, and what follows from it
+pub on_ok : {T E P Q : Type 0} (r : Result T E) → (P → Q) → OnOk r P → OnOk r Q
+on_ok (Ok _) f p = f p
+on_ok (Err _) f p = tt
 
 -- the same where nothing was written
 pub kept-same : (start out now : List ℕ) → take (length start) out ≡ start → now ≡ out → take (length start) now ≡ start

@@ -2,8 +2,8 @@
 //!
 //! `Memory` comes only where memory is wanting. A list to which a call could not append is as it was.
 
-ghost use Rattle.std.specs.Prelude.{◌≡◌, [], ◌∷◌, ◌++◌, IfOk, OnOk, OnErr};
-ghost use Rattle.qs_tree.specs.Trees.{node};
+ghost use Rattle.std.specs.Prelude.{◌≡◌, List, [], ◌∷◌, ◌++◌, IfOk, OnOk, OnErr};
+ghost use Rattle.qs_tree.specs.Trees.{Tree as LabelledTree, node, forest, size};
 ghost use Rattle.qs_tree.specs.Cells.{tree_of, trees_of};
 
 use crate::borrowed::{ForestRef, TreeRef};
@@ -108,6 +108,45 @@ impl Forest {
         Forest {
             cells: Vec::new(alloc),
         }
+    }
+
+    /// The empty list, with memory for trees of so many nodes in all.
+    pub fn with_capacity(alloc: Global, nodes: usize) -> Result<Forest, Memory>
+        ensures { IfOk result (λ f. f ≡ []) }
+    {
+        Ok(Forest {
+            cells: Vec::with_capacity(alloc, nodes)?,
+        })
+    }
+
+    /// How many nodes the trees of the list have. Takes no memory.
+    pub fn nodes(&self) -> usize
+        ensures { result ≡ size (forest self.now) }
+    {
+        self.cells.len()
+    }
+
+    /// Puts the last trees of the list under a new node with this label, which takes their place. They are those behind
+    /// the first trees that have so many nodes. After `Memory` the list is as before.
+    pub fn put_under(&mut self, label: Label, nodes: usize) -> Result<(), Memory>
+        requires { (first : List LabelledTree) × (last : List LabelledTree) × (self.old ≡ first ++ last)
+            × (nodes ≡ size (forest first)) }
+        ensures ok { OnOk result ((first last : List LabelledTree) → self.old ≡ first ++ last
+            → nodes ≡ size (forest first) → self.new ≡ first ++ node label last ∷ []) }
+        ensures err { OnErr result (self.new ≡ self.old) }
+    {
+        let extent = self.cells.len() - nodes + 1;
+        self.cells.insert(nodes, Cell { label, extent })?;
+        Ok(())
+    }
+
+    /// The only tree of the list. Takes no memory.
+    pub fn into_tree(self) -> Tree
+        requires { (tree : LabelledTree) × (self ≡ tree ∷ []) }
+        ensures { result ∷ [] ≡ self }
+    {
+        let Forest { cells } = self;
+        Tree { cells }
     }
 
     /// Appends a copy of the tree. After `Memory` the list is as before.
