@@ -1,15 +1,8 @@
 -- Lists of rules that are all marked unique.
 use Rattle.std.proofs.Common.{◌≡◌, Bool, true, false, List, [], ◌∷◌, refl, inl, inr, ap, ◌∙◌, ⊎_elim}
 use Rattle.std.specs.Prelude.{◌&&◌}
+use Rattle.qs_tree.proofs.Sameness.{and_true, true_and}
 use Rattle.qs_pattern.specs.Rules.{Rule, IsUnique, all_unique}
-
-true_and : (a b : Bool) → a ≡ true → b ≡ true → (a && b) ≡ true
-true_and true b p q = q
-true_and false b p q = p
-
-and_true : (a b : Bool) → (a && b) ≡ true → (a ≡ true) × (b ≡ true)
-and_true true b e = (refl, e)
-and_true false b e = absurd cc
 
 pub all_unique-true : (rules : List Rule) → IsUnique rules → all_unique rules ≡ true
 all_unique-true [] each = refl

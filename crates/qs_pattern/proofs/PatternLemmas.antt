@@ -16,7 +16,7 @@ row_patterns-is (more_of-Pattern p rest) = ap (pattern_before p) (row_patterns-i
 pub pattern-Node : (h : Head) (ks : Vec Pattern Global) (rest : Patterns) → pattern_before (Node h ks) rest ≡ node_first h (patterns ks.items) rest
 pattern-Node h ks rest = ap (λ ts. node_first h ts rest) (row_patterns-is (hidden-the_row-Pattern-0 ks) ∙ ap patterns (items_hidden-the_row-Pattern-0 ks))
 
-rest_is : (q : Pattern) (qs : List Pattern) → take (length (q ∷ qs) - 1) (drop 1 (q ∷ qs)) ≡ qs
+pub rest_is : (q : Pattern) (qs : List Pattern) → take (length (q ∷ qs) - 1) (drop 1 (q ∷ qs)) ≡ qs
 rest_is q qs = grind (arith, common_steps)
 
 -- as many patterns as there are in the list

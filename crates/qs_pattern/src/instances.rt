@@ -24,25 +24,45 @@ fn root_label(head: Head, subst: &Subst) -> Label
     }
 }
 
+// How many nodes the trees that the pattern stands for have. Nothing rests on it but how much memory is taken at once.
+fn nodes_of(pattern: &Pattern, subst: &Subst) -> usize {
+    match pattern {
+        Pattern::Node { kids, .. } => {
+            let mut nodes: usize = 1;
+            for kid in kids {
+                nodes = nodes.saturating_add(nodes_of(kid, subst));
+            }
+            nodes
+        }
+        Pattern::Tree(var) | Pattern::Forest(var) => match subst.get(*var) {
+            Some(Value::Tree(tree)) => tree.view().cells.len(),
+            Some(Value::Forest(forest)) => forest.view().cells.len(),
+            _ => 0,
+        },
+    }
+}
+
+// The same for a list of patterns.
+fn nodes_of_all(list: &[Pattern], subst: &Subst) -> usize {
+    let mut nodes: usize = 0;
+    for pattern in list {
+        nodes = nodes.saturating_add(nodes_of(pattern, subst));
+    }
+    nodes
+}
+
 // Appends the trees that the pattern stands for.
-fn append(
-    alloc: Global,
-    pattern: &Pattern,
-    subst: &Subst,
-    out: &mut Forest,
-) -> Result<(), AllocError>
+fn append(pattern: &Pattern, subst: &Subst, out: &mut Forest) -> Result<(), AllocError>
     requires { IsCovered subst.now (one_pattern pattern.now) }
     ensures { OnOk result (out.new ≡ out.old ++ inst subst.now (one_pattern pattern.now)) }
 {
     match pattern {
         Pattern::Node { head, kids } => {
-            let mut below = Forest::empty(alloc);
+            let before = out.nodes();
             for kid in kids {
-                append(alloc, kid, subst, &mut below)?;
+                append(kid, subst, out)?;
             }
-            let tree = Tree::node(alloc, root_label(*head, subst), below.view())?;
-            out.push(tree.view())?;
-            Ok(())
+            out.put_under(root_label(*head, subst), before)
         }
         Pattern::Tree(var) => match subst.get(*var) {
             Some(Value::Tree(tree)) => out.push(tree.view()),
@@ -60,24 +80,24 @@ pub fn forest_of(alloc: Global, list: &[Pattern], subst: &Subst) -> Result<Fores
     requires { IsCovered subst.now (patterns list.now) }
     ensures { IfOk result (λ f. f ≡ inst subst.now (patterns list.now)) }
 {
-    let mut out = Forest::empty(alloc);
+    let mut out = Forest::with_capacity(alloc, nodes_of_all(list, subst))?;
     for pattern in list {
-        append(alloc, pattern, subst, &mut out)?;
+        append(pattern, subst, &mut out)?;
     }
     Ok(out)
 }
 
-// The one tree that the pattern stands for.
-fn tree(alloc: Global, pattern: &Pattern, subst: &Subst) -> Result<Tree, AllocError>
-    requires single { NoForestAtTop (one_pattern pattern.now) }
-    requires covered { IsCovered subst.now (one_pattern pattern.now) }
-    ensures { IfOk result (λ t. t ∷ [] ≡ inst subst.now (one_pattern pattern.now)) }
+/// The one tree that the pattern stands for. It is made in one piece of memory.
+pub fn one_instance(alloc: Global, pattern: &Pattern, subst: &Subst) -> Result<Tree, AllocError>
+    requires single { NoForestAtTop (patterns (pattern.now ∷ [])) }
+    requires covered { IsCovered subst.now (patterns (pattern.now ∷ [])) }
+    ensures { IfOk result (λ t. t ∷ [] ≡ inst subst.now (patterns (pattern.now ∷ []))) }
 {
     match pattern {
-        Pattern::Node { head, kids } => {
-            let below = forest_of(alloc, kids, subst)?;
-            let tree = Tree::node(alloc, root_label(*head, subst), below.view())?;
-            Ok(tree)
+        Pattern::Node { .. } => {
+            let mut out = Forest::with_capacity(alloc, nodes_of(pattern, subst))?;
+            append(pattern, subst, &mut out)?;
+            Ok(out.into_tree())
         }
         Pattern::Tree(var) => match subst.get(*var) {
             Some(Value::Tree(tree)) => Ok(tree.copy()?),
@@ -95,7 +115,7 @@ pub fn instance(alloc: Global, side: &[Pattern], subst: &Subst) -> Result<Vec<Tr
 {
     let mut trees = Vec::with_capacity(alloc, side.len())?;
     for pattern in side {
-        trees.push(tree(alloc, pattern, subst)?)?;
+        trees.push(one_instance(alloc, pattern, subst)?)?;
     }
     Ok(trees)
 }

@@ -16,7 +16,7 @@ mod variable;
 pub use condition::Cond;
 pub use holding::holds;
 pub use in_class::are_in_class;
-pub use instances::{forest_of, instance};
+pub use instances::{forest_of, instance, one_instance};
 pub use occurrences::{first_occurrences, variables, written_variables};
 pub use pattern::{Head, Pattern};
 pub use rule::Rule;

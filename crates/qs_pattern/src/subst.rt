@@ -66,6 +66,15 @@ impl Subst {
         }
     }
 
+    /// The same, with memory for so many variables.
+    pub fn with_capacity(alloc: Global, variables: usize) -> Result<Subst, AllocError>
+        ensures { IfOk result (λ s. s ≡ []) }
+    {
+        Ok(Subst {
+            pairs: Vec::with_capacity(alloc, variables)?,
+        })
+    }
+
     /// Appends a variable and its value. Where memory is wanting, the value is dropped and the list is as before.
     pub fn add(&mut self, var: Var, value: Value) -> Result<(), AllocError>
         requires absent { value_of self.old var ≡ None }

@@ -1,5 +1,4 @@
 -- One pattern as a list of patterns.
-use Rattle.std.specs.Prelude.{[]}
 use Rattle.qs_pattern.specs.declared.pattern.Pattern.{Pattern}
 use Rattle.qs_pattern.specs.Patterns.{Patterns, no_pattern, pattern_before}
 

@@ -1,6 +1,6 @@
-use Rattle.std.proofs.Common.{◌≡◌, ◌++◌, ◌∷◌, [], ap, ◌∙◌, sym, subst, rules}
+use Rattle.std.proofs.Common.{◌++◌, ◌∷◌, [], ap, ◌∙◌, sym, subst, refl, rules}
 use Rattle.qs_tree.specs.Trees.{node}
-use Rattle.qs_tree.specs.Cells.{tree_of}
+use Rattle.qs_tree.proofs.Kept.{on_ok}
 use Rattle.qs_pattern.specs.Patterns.{patterns}
 use Rattle.qs_pattern.specs.Instances.{inst, label_of, IsCovered}
 use Rattle.qs_pattern.specs.declared.pattern.Pattern.TheFolds.{the_lemmas}
@@ -11,7 +11,7 @@ pub loop-kid-init : goal.loop-kid-init
 loop-kid-init t c =
     let s = c.args.subst.now in
     record {
-      trees = ap (λ a. a ++ inst s (patterns c.deref-kid-items.result.now)) c.empty-below.ensures;
+      trees = refl;
       covered =
           subst (λ ps. IsCovered s (patterns ps)) (sym c.deref-kid-items.ensures.value)
           (covered_kids s c.in-Node.head c.in-Node.kids _ c.in-Node.is c.requires);
@@ -30,18 +30,25 @@ loop-kid-preserved t c =
       covered = (covered_here c.args.subst.now c.deref-kid-items.result.now c.loop-kid.kid-index c.kid-item.result c.loop-kid-test.true c.kid-item.is c.loop-kid.invariant.covered).1;
     }
 
-pub returns-in_ok-push-in-Node : goal.returns-in_ok-push-in-Node
-returns-in_ok-push-in-Node t c =
+pub put_under-requires : goal.put_under-requires
+put_under-requires t c =
+    let s = c.args.subst.now in (
+      c.args.out.now,
+      inst s (patterns c.deref-kid-items.result.now),
+      inst_done s c.deref-kid-items.result.now c.loop-kid.kid-index _ _ c.loop-kid-test.false c.loop-kid.invariant.trees,
+      c.nodes-before.ensures,
+    )
+
+pub returns-after-loop-kid : goal.returns-after-loop-kid
+returns-after-loop-kid t c =
     let s = c.args.subst.now in
-    let below : c.loop-kid.below ≡ inst s (patterns c.in-Node.kids.items) =
-    inst_done s c.deref-kid-items.result.now c.loop-kid.kid-index _ _ c.loop-kid-test.false c.loop-kid.invariant.trees ∙ ap (λ ps. inst s (patterns ps)) c.deref-kid-items.ensures.value
+    let kids = c.deref-kid-items.result.now in
+    let below = inst_done s kids c.loop-kid.kid-index _ _ c.loop-kid-test.false c.loop-kid.invariant.trees in
+    let one =
+    ap (λ l. node l (inst s (patterns kids)) ∷ []) c.root_label.ensures
+    ∙ ap (λ ps. node (label_of s c.in-Node.head) (inst s (patterns ps)) ∷ []) c.deref-kid-items.ensures.value
+    ∙ sym (inst-Node s c.in-Node.head c.in-Node.kids _ c.in-Node.is)
     in
-    let tree : tree_of c.view-in-Node.result.cells.now ≡ node (label_of s c.in-Node.head) (inst s (patterns c.in-Node.kids.items)) =
-    c.view-in-Node.ensures ∙ c.in_ok-tree-in-Node.ensures
-    ∙ ap (λ ts. node c.root_label.result ts) c.view.ensures
-    ∙ ap (λ l. node l c.loop-kid.below) c.root_label.ensures
-    ∙ ap (λ ts. node (label_of s c.in-Node.head) ts) below
-    in
-    c.in_ok-push-in-Node.ensures.ok
-    ∙ ap (λ x. c.args.out.now ++ x ∷ []) tree
-    ∙ ap (λ xs. c.args.out.now ++ xs) (sym (inst-Node s c.in-Node.head c.in-Node.kids _ c.in-Node.is))
+    on_ok c.put_under.result
+    (λ under. under c.args.out.now (inst s (patterns kids)) below c.nodes-before.ensures ∙ ap (λ ts. c.args.out.now ++ ts) one)
+    c.put_under.ensures.ok

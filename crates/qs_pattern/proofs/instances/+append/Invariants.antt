@@ -6,6 +6,6 @@ use Rattle.qs_pattern.proofs.instances.+append.Given as goal
 abbrev pub invariant-loop-kid : goal.invariant-loop-kid
 invariant-loop-kid l =
     record {
-      trees : l.below ++ inst l.subst (patterns (drop l.kid-index l.kid-items)) ≡ inst l.subst (patterns l.kid-items);
+      trees : l.out ++ inst l.subst (patterns (drop l.kid-index l.kid-items)) ≡ l.initial.out ++ inst l.subst (patterns l.kid-items);
       covered : IsCovered l.subst (patterns (drop l.kid-index l.kid-items));
     }

@@ -2,19 +2,19 @@ use Rattle.std.proofs.Common.{◌∙◌, ap, ◌++◌}
 use Rattle.qs_pattern.proofs.InstanceLemmas.{covered_here, single_here, inst_more}
 use Rattle.qs_pattern.proofs.instances.instance.Goals as goal
 
-pub tree-requires-clause-single : goal.tree-requires-clause-single
-tree-requires-clause-single c =
+pub one_instance-requires-clause-single : goal.one_instance-requires-clause-single
+one_instance-requires-clause-single c =
     (single_here c.args.subst.now c.args.side.now c.loop-pattern.pattern-index c.pattern-item.result c.loop-pattern-test.true c.pattern-item.is c.loop-pattern.invariant.single).0
 
-pub tree-requires-clause-covered : goal.tree-requires-clause-covered
-tree-requires-clause-covered c =
+pub one_instance-requires-clause-covered : goal.one_instance-requires-clause-covered
+one_instance-requires-clause-covered c =
     (covered_here c.args.subst.now c.args.side.now c.loop-pattern.pattern-index c.pattern-item.result c.loop-pattern-test.true c.pattern-item.is c.loop-pattern.invariant.covered).0
 
 pub loop-pattern-preserved : goal.loop-pattern-preserved
 loop-pattern-preserved c =
     record {
       trees = inst_more c.args.subst.now c.args.side.now c.loop-pattern.pattern-index c.pattern-item.result c.loop-pattern-test.true c.pattern-item.is _ _ _
-          (c.in_ok-push.ensures.items ∙ ap (λ ts. c.loop-pattern.trees.items ++ ts) c.in_ok-tree.ensures)
+          (c.in_ok-push.ensures.items ∙ ap (λ ts. c.loop-pattern.trees.items ++ ts) c.in_ok-one_instance.ensures)
           c.loop-pattern.invariant.trees;
       single = (single_here c.args.subst.now c.args.side.now c.loop-pattern.pattern-index c.pattern-item.result c.loop-pattern-test.true c.pattern-item.is c.loop-pattern.invariant.single).1;
       covered = (covered_here c.args.subst.now c.args.side.now c.loop-pattern.pattern-index c.pattern-item.result c.loop-pattern-test.true c.pattern-item.is c.loop-pattern.invariant.covered).1;
