@@ -1,5 +1,5 @@
 -- The steps of the search, over the lists that its contracts name.
-use Rattle.std.proofs.Common.{Bool, true, false, inl, inr, ℕ, nat_eq, ◌≡◌, ◌+◌, ◌<◌, ◌≤◌, List, [], ◌∷◌, ◌++◌, length, Option, Some, None, Result, Ok, Err, OnOk, IsNone, refl, sym, ap, ◌∙◌, subst, arith}
+use Rattle.std.proofs.Common.{Bool, true, false, inl, inr, ℕ, nat_eq, ◌≡◌, ◌+◌, ◌<◌, ◌≤◌, List, [], ◌∷◌, ◌++◌, length, Option, Some, None, IsNone, refl, sym, ap, ◌∙◌, subst, arith}
 use Rattle.std.specs.Option.{is_some}
 use Rattle.std.proofs.lemmas.Bool.{eqb-true}
 use Rattle.qs_tree.specs.declared.cell.Label.{Label}
@@ -23,10 +23,6 @@ use Rattle.qs_tree.specs.Splits.{PassesTree}
 use Rattle.qs_pattern.specs.Instances.{inst, label_of}
 use Rattle.qs_pattern.specs.Patterns.{AreInClass}
 use Rattle.qs_match.proofs.Fronts.{Splits, SplitsAt, TriedAt, splits_start, splits_end, splits_no, splits_more, splits_none, takes_within}
-
-pub on_ok : {A E : Type 0} {P Q : Type 0} (r : Result A E) → (P → Q) → OnOk r P → OnOk r Q
-on_ok (Ok x) f p = f p
-on_ok (Err e) f p = tt
 
 module _ (W : Tasks) (s : Substitution) (old new : List Substitution) where
   pub tree_some : (v : Var) (rest : Patterns) → IsTreeVar v → (t : Substitution) (u x : Tree) (us ts : List Tree) → ts ≡ u ∷ us → x ≡ u → Binds s v (value.Tree x) t

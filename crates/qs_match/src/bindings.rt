@@ -76,19 +76,19 @@ pub fn owned(alloc: Global, value: ValueRef<'_>) -> Result<Value, AllocError>
     }
 }
 
-/// The substitution of these bindings.
-pub fn subst_of(alloc: Global, bindings: &Bindings<'_>) -> Result<Subst, AllocError>
+/// The substitution of these bindings, with memory for so many variables more.
+pub fn subst_of(alloc: Global, bindings: &Bindings<'_>, more: usize) -> Result<Subst, AllocError>
     requires { IsSubstitution (substitution_of bindings.now) }
     ensures { IfOk result (λ s. s ≡ substitution_of bindings.now) }
 {
     match bindings {
-        Bindings::Nothing => Ok(Subst::empty(alloc)),
+        Bindings::Nothing => Subst::with_capacity(alloc, more),
         Bindings::More {
             var,
             value,
             earlier,
         } => {
-            let mut subst = subst_of(alloc, earlier)?;
+            let mut subst = subst_of(alloc, earlier, more.saturating_add(1))?;
             subst.add(*var, owned(alloc, *value)?)?;
             Ok(subst)
         }

@@ -65,7 +65,7 @@ fn search_remaining(
     }
     match state.remaining {
         Remaining::Nothing => {
-            found.push(subst_of(alloc, state.bindings)?)?;
+            found.push(subst_of(alloc, state.bindings, 0)?)?;
             Ok(())
         }
         Remaining::Then {

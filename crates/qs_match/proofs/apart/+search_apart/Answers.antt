@@ -5,7 +5,7 @@ use Rattle.qs_pattern.specs.Patterns.{patterns, AreInClass}
 use Rattle.qs_match.specs.working.Tasks.{IsInClass}
 use Rattle.qs_match.specs.working.Remaining.{tasks_of}
 use Rattle.qs_match.proofs.Variants.{tasks-Then}
-use Rattle.qs_match.proofs.Calls.{on_ok}
+use Rattle.qs_tree.proofs.Kept.{on_ok}
 use Rattle.qs_match.proofs.Joining.{all_behind, last_tree, front_in_class, front_singles, cut_appends}
 use Rattle.qs_match.proofs.apart.+search_apart.Goals as goal
 

@@ -9,7 +9,8 @@ use Rattle.qs_match.proofs.Variants.{tasks-Nothing, tasks-Then, substitution-Mor
 use Rattle.qs_pattern.proofs.SubstitutionLemmas.{substitution_class}
 use Rattle.qs_match.proofs.Substitutions.{binds_substitution}
 use Rattle.qs_pattern.proofs.PatternLemmas.{side_node}
-use Rattle.qs_match.proofs.Calls.{on_ok, tree_appends, tree_none, label_some, label_is, root_none, kids_none, head_appends, end_found, is_none, front_begin, front_short, front_tries, front_more, front_last, front_enough}
+use Rattle.qs_tree.proofs.Kept.{on_ok}
+use Rattle.qs_match.proofs.Calls.{tree_appends, tree_none, label_some, label_is, root_none, kids_none, head_appends, end_found, is_none, front_begin, front_short, front_tries, front_more, front_last, front_enough}
 use Rattle.qs_match.proofs.Fronts.{splits_no}
 use Rattle.qs_match.proofs.Splits.{passes_length}
 use Rattle.qs_match.proofs.search.+search.Goals as goal
