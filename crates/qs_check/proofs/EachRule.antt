@@ -8,6 +8,7 @@ use Rattle.qs_tree.proofs.Decisions.{decide_member}
 use Rattle.qs_tree.proofs.Members.{in_append_right}
 use Rattle.qs_lex.specs.declared.refusal.Cause.{Cause}
 use Rattle.qs_lex.specs.declared.refusal.Cause.TheVariants.{SideTooLong, TooManyCells, TooManyVariables, Unbound}
+use Rattle.qs_pattern.specs.Limits.{most_patterns, most_cells, most_variables}
 use Rattle.qs_pattern.specs.declared.variable.Var.{Var}
 use Rattle.qs_pattern.specs.declared.pattern.Head.{Head}
 use Rattle.qs_pattern.specs.declared.pattern.Head.TheVariants as head
@@ -46,12 +47,12 @@ cut (suc n) (tree_var_first v side) l =
 cut (suc n) (forest_var_first v side) l =
     let c = cut n side (omega arith) in record { front = forest_var_first v c.front; behind = c.behind; are = ap (forest_var_first v) c.are; many = omega (arith, c.many); more = c.more }
 
-side_decided : (side : Patterns) → (count side ≤ 16) ⊎ ((place : ℕ) × Has17th side place)
+side_decided : (side : Patterns) → (count side ≤ most_patterns) ⊎ ((place : ℕ) × Has17th side place)
 side_decided side =
     ⊎_elim
-    (λ long. let c = cut 16 side long in inr (cells c.front, record { front = c.front; behind = c.behind; are = c.are; sixteen = c.many; more = c.more; cells_before = refl }))
+    (λ long. let c = cut most_patterns side long in inr (cells c.front, record { front = c.front; behind = c.behind; are = c.are; sixteen = c.many; more = c.more; cells_before = refl }))
     (λ short. inl short)
-    (cases_lt 16 (count side))
+    (cases_lt most_patterns (count side))
 
 -- ---- variables among the cells
 
@@ -71,7 +72,7 @@ module _ (cs : List Head) where
       by (no n) = inl (w, refl, n)
 
   abbrev FewBefore : ℕ → Type 0
-  FewBefore n = length (firsts (variables_among (take n cs))) ≤ 32
+  FewBefore n = length (firsts (variables_among (take n cs))) ≤ most_variables
 
   one_further : (n : ℕ) (x : Head) → n < length cs → x ≡ get_or cs n x → slice_get cs n ≡ Some x → FewBefore n → FewBefore (n + 1) ⊎ ((place : ℕ) × Has33rd cs place)
   one_further n x l is there few = by (new_or_known x (variables_among (take n cs)))
@@ -86,7 +87,7 @@ module _ (cs : List Head) where
           ⊎_elim
           (λ less. inl (omega (arith, many, less)))
           (λ full. inr (n, record { var = w.0; at = there ∙ ap (λ h. Some h) w.1; new = w.2; before = omega (arith, full, few) }))
-          (cases_lt (length (firsts (variables_among (take n cs)))) 32)
+          (cases_lt (length (firsts (variables_among (take n cs)))) most_variables)
 
   few_up_to : (n : ℕ) → n ≤ length cs → FewBefore n ⊎ ((place : ℕ) × Has33rd cs place)
   few_up_to zero l = inl (omega arith)
@@ -98,9 +99,9 @@ module _ (cs : List Head) where
           let up : n + 1 ≡ suc n = omega arith in
           subst (λ k. FewBefore k ⊎ ((place : ℕ) × Has33rd cs place)) up (one_further n x.0 (omega arith) x.1 x.2 few)
 
-  variables_decided : (length (firsts (variables_among cs)) ≤ 32) ⊎ ((place : ℕ) × Has33rd cs place)
+  variables_decided : (length (firsts (variables_among cs)) ≤ most_variables) ⊎ ((place : ℕ) × Has33rd cs place)
   variables_decided =
-      ⊎_elim (λ few. inl (subst (λ us. length (firsts (variables_among us)) ≤ 32) (take_all (length cs) cs (omega arith)) few)) (λ h. inr h) (few_up_to (length cs) (omega arith))
+      ⊎_elim (λ few. inl (subst (λ us. length (firsts (variables_among us)) ≤ most_variables) (take_all (length cs) cs (omega arith)) few)) (λ h. inr h) (few_up_to (length cs) (omega arith))
 
   module _ (left : List Var) where
     abbrev BoundBefore : ℕ → Type 0
@@ -129,7 +130,7 @@ module _ (raw : WrittenRule) (can : CanBeChecked raw) where
   abbrev IsDecided : Type 0
   IsDecided = IsAcceptable raw.rule ⊎ ((cause : Cause) × (place : ℕ) × IsFirstCause raw.rule cause place)
 
-  by_binding : HasShortSides raw.rule → rule_cells raw.rule ≤ 256 → length (firsts (rule_variables raw.rule)) ≤ 32 → IsDecided
+  by_binding : HasShortSides raw.rule → rule_cells raw.rule ≤ most_cells → length (firsts (rule_variables raw.rule)) ≤ most_variables → IsDecided
   by_binding short few fewer =
       ⊎_elim
       (λ bound. inl (record {
@@ -144,15 +145,15 @@ module _ (raw : WrittenRule) (can : CanBeChecked raw) where
       (λ h. inr (Unbound, h.0, unbound short few fewer h.1))
       (bound_decided (written_rule raw.rule) (variables_in raw.rule.left))
 
-  by_variables : HasShortSides raw.rule → rule_cells raw.rule ≤ 256 → IsDecided
+  by_variables : HasShortSides raw.rule → rule_cells raw.rule ≤ most_cells → IsDecided
   by_variables short few =
       ⊎_elim
-      (λ fewer. by_binding short few (subst (λ vs. length (firsts vs) ≤ 32) (variables-rule raw.rule) fewer))
+      (λ fewer. by_binding short few (subst (λ vs. length (firsts vs) ≤ most_variables) (variables-rule raw.rule) fewer))
       (λ h. inr (TooManyVariables, h.0, too_many_variables short few h.1))
       (variables_decided (written_rule raw.rule))
 
   by_cells : HasShortSides raw.rule → IsDecided
-  by_cells short = ⊎_elim (λ many. inr (TooManyCells, 256, too_many_cells short many)) (λ few. by_variables short few) (cases_lt 256 (rule_cells raw.rule))
+  by_cells short = ⊎_elim (λ many. inr (TooManyCells, most_cells, too_many_cells short many)) (λ few. by_variables short few) (cases_lt most_cells (rule_cells raw.rule))
 
   pub rule_decided : IsDecided
   rule_decided =

@@ -7,6 +7,7 @@ use Rattle.std.proofs.lemmas.Option.{slice_get_within, get_or_from_slice_get}
 use Rattle.qs_tree.specs.Lists.{◌∈◌}
 use Rattle.qs_tree.proofs.Members.{in_append_left, in_append_right, from_append}
 use Rattle.qs_lex.specs.declared.refusal.Cause.{Cause}
+use Rattle.qs_pattern.specs.Limits.{most_patterns, most_variables}
 use Rattle.qs_pattern.specs.declared.variable.Var.{Var}
 use Rattle.qs_pattern.specs.declared.pattern.Head.{Head}
 use Rattle.qs_pattern.specs.declared.pattern.Head.TheVariants as head
@@ -87,7 +88,7 @@ one_17th : (side : Patterns) (n m : ℕ) → Has17th side n → Has17th side m �
 one_17th side n m h k =
     h.cells_before ∙ same_front h.front k.front h.behind k.behind (sym h.are ∙ k.are) (h.sixteen ∙ sym k.sixteen) ∙ sym k.cells_before
 
-long_17th : (side : Patterns) (n : ℕ) → Has17th side n → 16 < count side
+long_17th : (side : Patterns) (n : ℕ) → Has17th side n → most_patterns < count side
 long_17th side n h = omega (arith, ap count h.are, count-joined h.front h.behind, h.sixteen, h.more)
 
 -- ---- variables in front of a place
@@ -108,7 +109,7 @@ module _ (cs : List Head) where
       subst (λ vs. v ∈ vs) (sym (later (m + 1) n (omega arith))) (in_append_left (variables_among (take (m + 1) cs)) (variables_among (drop (m + 1) (take n cs))) v here)
 
   -- the 33rd different variable makes 33
-  thirty_three : (n m : ℕ) → Has33rd cs n → n < m → 32 < length (firsts (variables_among (take m cs)))
+  thirty_three : (n m : ℕ) → Has33rd cs n → n < m → most_variables < length (firsts (variables_among (take m cs)))
   thirty_three n m h l =
       let within = slice_get_within cs n (head.Var h.var) h.at in
       let new : h.var ∈ firsts (variables_among (take n cs)) → ⊥ = λ i. h.new (from_firsts (variables_among (take n cs)) h.var i) in
@@ -124,10 +125,10 @@ module _ (cs : List Head) where
         firsts-grow (variables_among (take (n + 1) cs)) (variables_among (drop (n + 1) (take m cs))),
       )
 
-  many : (n : ℕ) → Has33rd cs n → 32 < length (firsts (variables_among cs))
+  many : (n : ℕ) → Has33rd cs n → most_variables < length (firsts (variables_among cs))
   many n h =
       let within = slice_get_within cs n (head.Var h.var) h.at in
-      subst (λ us. 32 < length (firsts (variables_among us))) (take_all (length cs) cs (omega arith)) (thirty_three n (length cs) h within)
+      subst (λ us. most_variables < length (firsts (variables_among us))) (take_all (length cs) cs (omega arith)) (thirty_three n (length cs) h within)
 
   not_before_33rd : (n m : ℕ) → Has33rd cs n → Has33rd cs m → n < m → ⊥
   not_before_33rd n m h k l = let more = thirty_three n m h l in let less = k.before in omega arith
@@ -141,8 +142,8 @@ module _ (cs : List Head) where
   one_unbound : (left : List Var) (n m : ℕ) → HasUnbound cs left n → HasUnbound cs left m → n ≡ m
   one_unbound left n m h k = ⊎_elim (λ e. e) (λ o. absurd (⊎_elim (not_before_unbound left n m h k) (not_before_unbound left m n k h) o)) (cases_order n m)
 
-many_different : (rule : UnmarkedRule) (n : ℕ) → Has33rd (written_rule rule) n → 32 < length (firsts (rule_variables rule))
-many_different rule n h = subst (λ vs. 32 < length (firsts vs)) (variables-rule rule) (many (written_rule rule) n h)
+many_different : (rule : UnmarkedRule) (n : ℕ) → Has33rd (written_rule rule) n → most_variables < length (firsts (rule_variables rule))
+many_different rule n h = subst (λ vs. most_variables < length (firsts vs)) (variables-rule rule) (many (written_rule rule) n h)
 
 -- ---- one first cause
 

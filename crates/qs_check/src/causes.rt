@@ -12,15 +12,21 @@ use crate::cells::cells_of;
 use qs_pattern::{Head, Pattern, Var};
 use std::alloc::{AllocError, Global};
 
+// The most trees of a side.
+const MOST_PATTERNS: usize = 16;
+
+// The most different variables of a rule.
+const MOST_VARIABLES: usize = 32;
+
 /// The number, among the side's cells, of the root of its 17th tree. None where there are at most 16 trees.
 pub fn root_of_17th(alloc: Global, side: &[Pattern]) -> Result<Option<usize>, AllocError>
     ensures { IfOk result
         (λ o. MatchOption o (count (patterns side.now) ≤ most_patterns) (λ place. Has17th (patterns side.now) place)) }
 {
-    if side.len() <= 16 {
+    if side.len() <= MOST_PATTERNS {
         return Ok(None);
     }
-    let before = cells_of(alloc, &side[..16])?;
+    let before = cells_of(alloc, &side[..MOST_PATTERNS])?;
     Ok(Some(before.len()))
 }
 
@@ -51,7 +57,7 @@ pub fn first_of_33rd(alloc: Global, cells: &[Head]) -> Result<Option<usize>, All
         let Some(var) = new_variable(*cell, &seen) else {
             continue;
         };
-        if seen.len() == 32 {
+        if seen.len() == MOST_VARIABLES {
             return Ok(Some(place));
         }
         seen.push(var)?;

@@ -12,6 +12,9 @@ use qs_pattern::{Rule, written_variables};
 use qs_ruletext::RawRule;
 use std::alloc::{AllocError, AllocFailed, Global};
 
+// The most labels and variables of a rule.
+const MOST_CELLS: usize = 256;
+
 /// Why `check` gives no rule.
 #[derive(Clone, Copy, Debug, PartialEq, Eq)]
 pub enum CheckEnd {
@@ -56,8 +59,8 @@ fn first_cause(alloc: Global, raw: &RawRule) -> Result<Option<(Cause, usize)>, A
         return Ok(Some((Cause::SideTooLong, left.len() + place)));
     }
     let cells = cells_of_rule(alloc, raw)?;
-    if cells.len() > 256 {
-        return Ok(Some((Cause::TooManyCells, 256)));
+    if cells.len() > MOST_CELLS {
+        return Ok(Some((Cause::TooManyCells, MOST_CELLS)));
     }
     if let Some(place) = first_of_33rd(alloc, &cells)? {
         return Ok(Some((Cause::TooManyVariables, place)));

@@ -1,17 +1,17 @@
 -- Where the line `-PHRASES-` stands.
-use Rattle.std.proofs.Common.{◌≡◌, ℕ, zero, suc, ◌+◌, ◌-◌, ◌<◌, ◌≤◌, Bool, true, false, cond, not, refl, sym, ◌∙◌, ap, subst, ⊎_elim, Option, Some, None, List, [], ◌∷◌, ◌++◌, length, take, drop, get_or, arith, length-drop}
+use Rattle.std.proofs.Common.{◌≡◌, ℕ, zero, suc, ◌+◌, ◌-◌, ◌<◌, ◌≤◌, Bool, true, false, cond, not, refl, sym, ◌∙◌, ap, subst, ⊎_elim, Option, Some, None, List, length, take, drop, get_or, arith, length-drop}
 use Rattle.std.specs.Prelude.{IsCharBoundary, ◌==◌}
 use Rattle.std.specs.Str.{IsUtf8, bytes_eq}
 use Rattle.std.specs.List.{prefix_len}
-use Rattle.std.proofs.lemmas.Bool.{cases_lt, eqb-true}
+use Rattle.std.proofs.lemmas.Bool.{cases_lt}
 use Rattle.std.proofs.lemmas.Slice.Eq.{bytes_eq-Decides}
-use Rattle.std.proofs.lemmas.List.{length-take-le, take-take, take_all, get_or-take, get_or-drop}
+use Rattle.std.proofs.lemmas.List.{length-take-le, take-take, get_or-take, get_or-drop}
 use Rattle.std.proofs.lemmas.Str.{IsCharBoundary-before_ascii, IsUtf8-take}
 use Rattle.qs_lex.specs.Characters.{line_feed}
-use Rattle.qs_deck.specs.Segments.{Segment, segments_from}
 use Rattle.qs_deck.specs.PhraseTexts.{lines_from, border_line, first_border, border_of, before, grammar_part}
-use Rattle.qs_deck.proofs.Cutting.{next_segment, nothing_behind, next_border, prefix_within, seen}
+use Rattle.qs_deck.proofs.Cutting.{next_segment, nothing_behind, next_border, prefix_within}
 use Rattle.qs_deck.proofs.LinesRead.{feed_ascii}
+use Rattle.qs_tree.proofs.Decisions.{same_there}
 
 -- what the line at a place says of where the border is
 pub border_here : (text : List ℕ) (at n : ℕ) → at ≤ length text → n ≡ prefix_len (λ b. not (b == line_feed)) (drop at text) → n ≤ length (drop at text) → (b : Bool) → bytes_eq (take n (drop at text)) border_line ≡ b
@@ -42,9 +42,6 @@ stands text at n within is bound e =
       behind = λ utf8 l. subst (IsCharBoundary text) (omega (arith, nine)) (next_border (λ b. b == line_feed) feed_ascii text at n utf8 is (omega (arith, l, nine)));
     }
 
-same_some : {x y : ℕ} → Some x ≡ Some y → x ≡ y
-same_some e = cc
-
 some_none : {x : ℕ} {A : Type 0} → None ≡ Some x → A
 some_none e = absurd cc
 
@@ -61,7 +58,7 @@ found (suc fuel) text at border l e =
       where
         by : (b : Bool) → bytes_eq (take n (drop at text)) border_line ≡ b → IsBorderAt text border
         by true f =
-            let same : at ≡ border = same_some (sym (border_here text at n within is bound true f) ∙ e) in
+            let same : at ≡ border = same_there (border_here text at n within is bound true f) e in
             subst (IsBorderAt text) same (stands text at n within is bound f)
         by false f = further (at + n + 1) (omega (arith, l)) (sym (border_here text at n within is bound false f) ∙ e)
 

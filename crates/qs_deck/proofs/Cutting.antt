@@ -1,5 +1,5 @@
 -- How a text is cut: from one segment to the next.
-use Rattle.std.proofs.Common.{◌≡◌, ℕ, zero, suc, ◌+◌, ◌-◌, ◌<◌, ◌≤◌, Bool, true, false, cond, not, refl, sym, ◌∙◌, ap, subst, ⊎_elim, List, [], ◌∷◌, length, take, drop, get_or, arith, length-drop}
+use Rattle.std.proofs.Common.{◌≡◌, ℕ, suc, ◌+◌, ◌-◌, ◌<◌, ◌≤◌, Bool, true, false, cond, not, refl, sym, ◌∙◌, ap, subst, ⊎_elim, List, [], ◌∷◌, length, take, drop, get_or, arith, length-drop}
 use Rattle.std.specs.Prelude.{IsCharBoundary}
 use Rattle.std.specs.Str.{IsUtf8}
 use Rattle.std.specs.List.{prefix_len, slice_split, onto_first}
@@ -8,7 +8,7 @@ use Rattle.std.proofs.lemmas.List.{take_rest, length-take-le, take_all, drop-dro
 use Rattle.std.proofs.lemmas.List.Splits.{slice_split-cons_no, slice_split_first}
 use Rattle.std.proofs.lemmas.List.Sums.{passes_at_first}
 use Rattle.std.proofs.lemmas.Str.{IsCharBoundary-after_ascii, IsCharBoundary-before_ascii}
-use Rattle.qs_deck.specs.Segments.{Segment, segments, cut, segments_from}
+use Rattle.qs_deck.specs.Segments.{segments, cut, segments_from}
 
 -- bytes that have none of the class are one segment
 whole : (p : ℕ → Bool) (bs : List ℕ) → length bs ≤ prefix_len (λ b. not (p b)) bs → slice_split p bs ≡ bs ∷ []

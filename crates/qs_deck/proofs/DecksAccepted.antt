@@ -4,6 +4,7 @@ use Rattle.std.specs.Prelude.{max}
 use Rattle.std.specs.List.{All}
 use Rattle.std.proofs.lemmas.List.{length-map}
 use Rattle.std.proofs.lemmas.List.Elements.{All-nil, All-cons}
+use Rattle.qs_lex.specs.Limits.{most_open}
 use Rattle.qs_lex.specs.declared.token.Token.{Token}
 use Rattle.qs_lex.specs.Tokens.{version_of, AreTokensOf}
 use Rattle.qs_tree.specs.declared.cell.Label.{Label}
@@ -97,7 +98,7 @@ module _ {text : List ℕ} {version : ℕ} {names : List (List ℕ)} {grammars :
   trees_are = trees_on_arcs was.chains G is.graph_is
 
   -- what was read shows how many parentheses are open at most in what is written
-  few_open : max (grammars_height grammars) (trees_height (map tree_on G.arcs)) ≤ 1000
+  few_open : max (grammars_height grammars) (trees_height (map tree_on G.arcs)) ≤ most_open
   few_open =
       let w = is.is_written in
       let shows = line_shows version w.front w.body [] w.in_front (deck_shows w.reads) in

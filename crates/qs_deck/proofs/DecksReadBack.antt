@@ -2,6 +2,7 @@
 use Rattle.std.proofs.Common.{◌≡◌, ◌⊎◌, ℕ, ◌<◌, ◌≤◌, Bool, true, false, refl, sym, ap, ◌∙◌, subst, inl, inr, List, [], ◌∷◌, ◌++◌, length, map, arith, codes}
 use Rattle.std.specs.List.{flat_map}
 use Rattle.std.proofs.lemmas.List.{length-map}
+use Rattle.qs_lex.specs.Limits.{most_node_number}
 use Rattle.qs_lex.specs.declared.token.Token.{Token}
 use Rattle.qs_lex.specs.declared.token.Kind.TheVariants.{Word as a_word, Bare, Stop}
 use Rattle.qs_lex.specs.declared.token.Word.TheVariants.{Systeme, Version, Unique}
@@ -216,7 +217,7 @@ module _ (names : List (List ℕ)) (text : List ℕ) (names_line : AreOnOneLine 
       }
 
 -- each arc of a valid graph with few nodes can be written
-pub writable : (n : ℕ) (G : QGraph) → IsValid G → G.nodes ≤ 999999999 → AreArcsNamed n G.arcs → (arc : Arc) → arc ∈ G.arcs → IsWritable n arc
+pub writable : (n : ℕ) (G : QGraph) → IsValid G → G.nodes ≤ most_node_number → AreArcsNamed n G.arcs → (arc : Arc) → arc ∈ G.arcs → IsWritable n arc
 writable n G valid few named arc i =
     let ends = valid.in_range arc i in
     record {
@@ -228,7 +229,7 @@ writable n G valid few named arc i =
 -- whatever follows: a deck ends with the end of a line
 pub deck_goes : (names : List (List ℕ)) (text : List ℕ) → AreOnOneLine names → (version : ℕ) → (version ≡ 1) ⊎ (version ≡ 2) → version ≡ version_of text → (grammars : List Grammar) → 1 ≤ length grammars
     → ((grammar : Grammar) → grammar ∈ grammars → IsWritableGrammar (version_of text) (length names) grammar)
-    → (G : QGraph) → IsValid G → G.nodes ≤ 999999999 → AreArcsNamed (length names) G.arcs → (left : List ℕ)
+    → (G : QGraph) → IsValid G → G.nodes ≤ most_node_number → AreArcsNamed (length names) G.arcs → (left : List ℕ)
     → Goes text (λ ts rest. ReadsBack names text ts version grammars G rest) (deck_text version names grammars G) left
 deck_goes names text names_line version which is grammars some w G valid few named left =
     let systems : List ℕ = flat_map (grammar_text names) grammars in
@@ -241,7 +242,7 @@ deck_goes names text names_line version which is grammars some w G valid few nam
     (graph_goes names text names_line G valid.some_arc (writable (length names) G valid few named) left)))
 
 -- the line and a graph alone
-pub line_and_graph : (names : List (List ℕ)) (names_line : AreOnOneLine names) (version : ℕ) → (version ≡ 1) ⊎ (version ≡ 2) → (G : QGraph) → IsValid G → G.nodes ≤ 999999999 → AreArcsNamed (length names) G.arcs
+pub line_and_graph : (names : List (List ℕ)) (names_line : AreOnOneLine names) (version : ℕ) → (version ≡ 1) ⊎ (version ≡ 2) → (G : QGraph) → IsValid G → G.nodes ≤ most_node_number → AreArcsNamed (length names) G.arcs
     → version ≡ version_of (deck_text version names [] G)
     → (ts : List Token) × AreTokensOf (deck_text version names [] G) ts
     × Both (AreLine names (deck_text version names [] G) names_line version) (AreGraph names (deck_text version names [] G) G.arcs) ts []
@@ -256,7 +257,7 @@ line_and_graph names names_line version which G valid few named is =
 pub deck_read_back : (names : List (List ℕ)) → AreOnOneLine names → (version : ℕ) → (version ≡ 1) ⊎ (version ≡ 2) → (grammars : List Grammar) → 1 ≤ length grammars → (G : QGraph)
     → version ≡ version_of (deck_text version names grammars G)
     → ((grammar : Grammar) → grammar ∈ grammars → IsWritableGrammar (version_of (deck_text version names grammars G)) (length names) grammar)
-    → IsValid G → G.nodes ≤ 999999999 → AreArcsNamed (length names) G.arcs
+    → IsValid G → G.nodes ≤ most_node_number → AreArcsNamed (length names) G.arcs
     → (ts : List Token) × AreTokensOf (deck_text version names grammars G) ts × ReadsBack names (deck_text version names grammars G) ts version grammars G []
 deck_read_back names names_line version which grammars some G is w valid few named =
     alone (deck_text version names grammars G) (deck_goes names (deck_text version names grammars G) names_line version which is grammars some w G valid few named [])

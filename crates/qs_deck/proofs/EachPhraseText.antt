@@ -1,55 +1,35 @@
 -- Each text means a phrase text or has a first fault.
-use Rattle.std.proofs.Common.{◌≡◌, ◌⊎◌, ℕ, zero, suc, ◌<◌, ◌≤◌, Bool, true, false, cond, refl, sym, ◌∙◌, ap, subst, inl, inr, ⊎_elim, Option, Some, None, List, [], ◌∷◌, ◌++◌, length, map, slice_get, arith, nat_lt, Contains}
+use Rattle.std.proofs.Common.{◌≡◌, ◌⊎◌, ℕ, ◌<◌, ◌≤◌, Bool, true, false, cond, refl, sym, ◌∙◌, ap, inl, inr, ⊎_elim, Option, Some, None, List, [], ◌∷◌, ◌++◌, length, map, slice_get, arith, nat_lt}
 use Rattle.std.specs.Str.{IsUtf8, is_utf8}
 use Rattle.std.specs.Str.Lossy.{utf8_valid_len}
 use Rattle.std.specs.List.{All, flat_map}
 use Rattle.std.proofs.lemmas.Bool.{false≢true, cases_lt, lt-ltb}
 use Rattle.std.proofs.lemmas.List.Elements.{All-nil, All-cons}
 use Rattle.std.proofs.lemmas.Str.{IsUtf8-from_is_utf8, is_utf8-from_IsUtf8}
-use Rattle.std.proofs.lemmas.Option.{slice_get-get_or}
+use Rattle.qs_tree.proofs.Elements.{exists_at}
 use Rattle.qs_lex.specs.declared.refusal.Cause.{Cause}
 use Rattle.qs_lex.specs.declared.refusal.Cause.TheVariants.{NotUtf8, Syntax, TooManyArcs}
 use Rattle.qs_lex.specs.declared.refusal.Refusal.{Refusal}
 use Rattle.qs_lex.specs.Refusals.{IsRefusedFor}
 use Rattle.qs_lex.proofs.Refusing.{some_refusal}
 use Rattle.qs_tree.specs.declared.cell.Label.{Label}
-use Rattle.qs_tree.specs.Lists.{◌∈◌}
-use Rattle.qs_tree.proofs.Members.{in_at}
-use Rattle.qs_tree.proofs.Decisions.{decide_number, decide_list, decide_member}
-use Rattle.qs_tree.proofs.NamesLemmas.{Contains-slice_get, slice_get-last}
-use Rattle.qs_reader.specs.Names.{AddsName}
+use Rattle.qs_deck.specs.Limits.{most_words}
 use Rattle.qs_deck.specs.WrittenDecks.{WrittenSystem}
-use Rattle.qs_deck.specs.Checks.{IsChecked}
 use Rattle.qs_deck.specs.Decks.{Grammar, meaning_of}
 use Rattle.qs_deck.specs.GrammarLists.{AreWritten, AreGrammarsOf}
 use Rattle.qs_deck.specs.Segments.{Segment}
-use Rattle.qs_deck.specs.PhraseTexts.{border_of, grammar_part, lines_behind, words_of, most_words, IsShort, lines_with_words, AddsWords, named_by, written_in, IsPhraseText, IsPhraseFault, bytes, unwritten, no_border, check, too_many_words}
+use Rattle.qs_deck.specs.PhraseTexts.{border_of, grammar_part, lines_behind, words_of, IsShort, lines_with_words, AddsWords, named_by, written_in, IsPhraseText, IsPhraseFault, bytes, unwritten, no_border, check, too_many_words}
 use Rattle.qs_deck.specs.LinesOfWords.{parted}
 use Rattle.qs_deck.specs.working.Phrases.{ends_of, flat}
 use Rattle.qs_deck.proofs.Meanings.{list_can}
-use Rattle.qs_deck.proofs.EachText.{checks_decided, member_at}
+use Rattle.qs_deck.proofs.EachText.{checks_decided}
 use Rattle.qs_deck.proofs.EachList.{written_or_not}
 use Rattle.qs_deck.proofs.NamedWords.{words_keep}
 use Rattle.qs_deck.proofs.LinesRead.{lines_apart}
 use Rattle.qs_deck.proofs.BorderLines.{part_utf8}
+use Rattle.qs_reader.proofs.Additions.{name_added}
 
 -- ---- names
-
-member_place : (names : List (List ℕ)) (word : List ℕ) → word ∈ names → (k : ℕ) × (slice_get names k ≡ Some word)
-member_place [] word i = absurd i
-member_place (n ∷ names) word (inl e) = (0, ap (λ text. Some text) (sym e))
-member_place (n ∷ names) word (inr i) = let p = member_place names word i in (suc p.0, p.1)
-
--- each word can be named
-name_added : (old : List (List ℕ)) (word : List ℕ) → (new : List (List ℕ)) × AddsName old word new × (k : ℕ) × (slice_get new k ≡ Some word)
-name_added old word = by (decide_member (decide_list decide_number) word old)
-  where
-    by : Dec (word ∈ old) → (new : List (List ℕ)) × AddsName old word new × (k : ℕ) × (slice_get new k ≡ Some word)
-    by (yes i) = let p = member_place old word i in (old, inl (Contains-slice_get old word p.0 p.1, refl), p.0, p.1)
-    by (no n) = (old ++ word ∷ [], inr (λ c. let p = place_of_name old c in n (in_at old p.0 word p.1), refl), length old, slice_get-last old word (length old) refl)
-      where
-        place_of_name : (names : List (List ℕ)) → Contains names word → (k : ℕ) × (slice_get names k ≡ Some word)
-        place_of_name names c = (c.0, slice_get-get_or names c.0 word c.1 ∙ ap (λ text. Some text) c.2)
 
 pub all_named : (words : List Segment) (old : List (List ℕ)) → (new : List (List ℕ)) × AddsWords words old new × (labels : List Label) × (named_by new labels ≡ written_in words)
 all_named [] old = (old, refl, [], refl)
@@ -95,7 +75,7 @@ short_or_long [] = inl (All-nil IsShort)
 short_or_long (l ∷ lines) = ⊎_elim long (short (short_or_long lines)) (cases_lt most_words (length (words_of l)))
   where
     long : most_words < length (words_of l) → All IsShort (l ∷ lines) ⊎ HasLong (l ∷ lines)
-    long more = let w = member_at (words_of l) most_words more in inr (record { front = []; line = l; more = lines; word = w.0; are = refl; short = All-nil IsShort; word_is = w.1 })
+    long more = let w = exists_at (words_of l) most_words more in inr (record { front = []; line = l; more = lines; word = w.0; are = refl; short = All-nil IsShort; word_is = w.1 })
 
     short : All IsShort lines ⊎ HasLong lines → length (words_of l) ≤ most_words → All IsShort (l ∷ lines) ⊎ HasLong (l ∷ lines)
     short others here =

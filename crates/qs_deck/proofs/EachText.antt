@@ -1,11 +1,12 @@
 -- Each text means a deck or has a first fault.
-use Rattle.std.proofs.Common.{◌≡◌, ◌⊎◌, ℕ, zero, suc, ◌-◌, ◌<◌, Bool, true, false, refl, sym, ◌∙◌, ap, subst, inl, inr, ⊎_elim, Some, List, [], ◌∷◌, length, map, slice_get, arith, length-append}
+use Rattle.std.proofs.Common.{◌≡◌, ◌⊎◌, ℕ, ◌-◌, ◌<◌, Bool, true, false, refl, sym, ◌∙◌, ap, subst, inl, inr, ⊎_elim, List, [], ◌∷◌, length, map, arith, length-append}
 use Rattle.std.specs.Str.{IsUtf8, is_utf8}
 use Rattle.std.specs.Str.Lossy.{utf8_valid_len}
 use Rattle.std.specs.List.{All}
 use Rattle.std.proofs.lemmas.Bool.{cases_lt, false≢true}
 use Rattle.std.proofs.lemmas.List.Elements.{All-nil, All-cons, All-head, All-tail}
 use Rattle.std.proofs.lemmas.Str.{IsUtf8-from_is_utf8, is_utf8-from_IsUtf8}
+use Rattle.qs_tree.proofs.Elements.{exists_at}
 use Rattle.qs_lex.specs.declared.token.Token.{Token}
 use Rattle.qs_lex.specs.declared.refusal.Cause.{Cause}
 use Rattle.qs_lex.specs.declared.refusal.Cause.TheVariants.{NotUtf8, TooDeep, Syntax, TooManySystems, TooManyArcs, Cycle, Entries, Exits}
@@ -27,6 +28,7 @@ use Rattle.qs_graphtext.specs.GraphOfChains.{AreRefused, graph_of}
 use Rattle.qs_graphtext.specs.declared.chain_end.ChainEnd.{ChainEnd}
 use Rattle.qs_graphtext.specs.declared.chain_end.ChainEnd.TheVariants as chain_end
 use Rattle.qs_graphtext.proofs.ChainDecisions.{chains_decided}
+use Rattle.qs_deck.specs.Limits.{most_systems}
 use Rattle.qs_deck.specs.WrittenDecks.{WrittenSystem, WrittenDeck, rules_of}
 use Rattle.qs_deck.specs.Grammar.{deck, line}
 use Rattle.qs_deck.specs.working.Syntax.{StopsBehind}
@@ -127,20 +129,15 @@ rules_decided (raw ∷ raws) can =
     (λ c. inr (c.0, c.1, record { front = []; raw = raw; behind = raws; are = refl; accepted = All-nil (λ r. IsAcceptable r.rule); ends = c.2 }))
     (rule_accepted_or_refused raw (All-head CanBeChecked raw raws can))
 
-pub member_at : {X : Type 0} (xs : List X) (k : ℕ) → k < length xs → (x : X) × (slice_get xs k ≡ Some x)
-member_at [] k l = absurd (omega arith)
-member_at (x ∷ xs) zero l = (x, refl)
-member_at (x ∷ xs) (suc k) l = member_at xs k (omega arith)
-
 pub checks_decided : (systems : List WrittenSystem) → All CanBeChecked (rules_of systems) → IsChecked systems ⊎ ((at : ℕ) × (cause : Cause) × IsCheckFault systems at cause)
 checks_decided systems can =
     ⊎_elim
-    (λ many. let s = member_at systems 256 many in inr (s.0.at, TooManySystems, too_many_systems s.0 s.1))
+    (λ many. let s = exists_at systems most_systems many in inr (s.0.at, TooManySystems, too_many_systems s.0 s.1))
     (λ few. ⊎_elim
     (λ good. inl (record { few = few; accepted = good }))
     (λ f. inr (f.1, f.0, rule_not_accepted f.2.front f.2.behind f.2.raw few f.2.are f.2.accepted f.2.ends))
     (rules_decided (rules_of systems) can))
-    (cases_lt 256 (length systems))
+    (cases_lt most_systems (length systems))
 
 -- ---- graphs
 

@@ -1,22 +1,23 @@
 -- Lines of words, read word by word and line by line.
-use Rattle.std.proofs.Common.{◌≡◌, ℕ, zero, suc, ◌+◌, ◌-◌, ◌<◌, ◌≤◌, Bool, true, false, cond, not, refl, sym, ◌∙◌, ap, subst, ⊎_elim, List, [], ◌∷◌, ◌++◌, length, map, take, drop, get_or, Some, None, Option, slice_get, arith, append_assoc, append-nil, length-append, length-drop, nat_lt, eqb}
+use Rattle.std.proofs.Common.{◌≡◌, ℕ, zero, suc, ◌+◌, ◌-◌, ◌<◌, ◌≤◌, true, cond, not, refl, sym, ◌∙◌, ap, subst, ⊎_elim, List, [], ◌∷◌, ◌++◌, length, map, take, drop, get_or, Some, slice_get, arith, append_assoc, append-nil, length-append, length-drop, nat_lt}
 use Rattle.std.specs.Prelude.{IsCharBoundary, ◌==◌}
 use Rattle.std.specs.Str.{IsUtf8}
 use Rattle.std.specs.List.{All, filter, flat_map, prefix_len}
 use Rattle.std.proofs.lemmas.Bool.{cases_lt, lt-ltb, eqb-true}
 use Rattle.std.proofs.lemmas.Bool.Decides.{nat_tests}
-use Rattle.std.proofs.lemmas.List.{length-take-le, take_all, take_at, drop_at, take-map, map-append, get_or-take}
-use Rattle.std.proofs.lemmas.List.Elements.{All-nil, All-cons, All-append, All-head, All-tail, filter-append}
+use Rattle.std.proofs.lemmas.List.{length-take-le, take_at, drop_at, take-map, map-append, get_or-take}
+use Rattle.std.proofs.lemmas.List.Elements.{All-nil, All-cons, All-head, All-tail, filter-append}
 use Rattle.std.proofs.lemmas.List.Concat.{flat_map-append}
 use Rattle.qs_lex.specs.Characters.{line_feed}
 use Rattle.qs_tree.specs.declared.cell.Label.{Label}
+use Rattle.qs_deck.specs.Limits.{most_words}
 use Rattle.qs_deck.specs.declared.fault.FaultEnd.{FaultEnd}
 use Rattle.qs_deck.specs.declared.fault.FaultEnd.TheVariants.{Fault, Memory}
-use Rattle.qs_deck.specs.Segments.{Segment, cut, segments_from}
-use Rattle.qs_deck.specs.PhraseTexts.{lines_from, is_blank, has_bytes, words_of, most_words, IsShort, has_words, lines_with_words, AddsWords, named_by, written_in}
+use Rattle.qs_deck.specs.Segments.{Segment, segments_from}
+use Rattle.qs_deck.specs.PhraseTexts.{lines_from, is_blank, has_bytes, words_of, IsShort, has_words, lines_with_words, AddsWords, named_by, written_in}
 use Rattle.qs_deck.specs.LinesOfWords.{parted, AreEnds}
-use Rattle.qs_deck.specs.working.Phrases.{ends_of, flat, words_from, AddsWord, AddsLabels, ReadsWords, ReadsWordsTo, IsEndOfWords, ReadsLines, ReadsLinesTo, HasTooManyWords, IsEndOfLines}
-use Rattle.qs_deck.proofs.Cutting.{next_segment, nothing_behind, next_border, end_border, front_segments}
+use Rattle.qs_deck.specs.working.Phrases.{ends_of, flat, words_from, AddsWord, AddsLabels, ReadsWords, ReadsWordsTo, IsEndOfWords, ReadsLines, ReadsLinesTo, IsEndOfLines}
+use Rattle.qs_deck.proofs.Cutting.{next_segment, nothing_behind, next_border, front_segments}
 use Rattle.qs_deck.proofs.NamedWords.{adds_none, adds_one, few_after_one, words_on, words_keep, still_named, named_on, as_many}
 
 pub blank_ascii : (b : ℕ) → is_blank b ≡ true → b < 128

@@ -7,20 +7,19 @@ use Rattle.std.proofs.lemmas.Nat.{pow_pos}
 use Rattle.std.proofs.lemmas.List.Elements.{Contains-append_cases}
 use Rattle.std.proofs.lemmas.List.FromFn.{length-map-range_with_len, get_or-map-range_with_len, map-range_with_len_more}
 use Rattle.qs_tree.specs.Lists.{◌∈◌}
-use Rattle.qs_tree.specs.Trees.{Tree}
 use Rattle.qs_tree.specs.Text.{IsNamed}
 use Rattle.qs_tree.proofs.Members.{from_map}
 use Rattle.qs_pattern.specs.Variables.{firsts}
 use Rattle.qs_pattern.specs.Patterns.{Patterns, no_pattern}
 use Rattle.qs_pattern.specs.Rules.{Rule, IsAccepted}
-use Rattle.qs_graph.specs.Graphs.{Arc, QGraph}
-use Rattle.qs_graph.specs.Chains.{chain}
+use Rattle.qs_graph.specs.Graphs.{QGraph}
 use Rattle.qs_graphtext.specs.Texts.{AreArcsNamed}
 use Rattle.qs_deck.specs.declared.system.System.{System}
 use Rattle.qs_deck.specs.Decks.{Grammar, grammar_of}
 use Rattle.qs_deck.specs.Named.{IsRuleNamed, IsSystemNamed, AreSystemsNamed}
 use Rattle.qs_deck.specs.MadeDecks.{level_name, word_name, levels, words, made_names, first_var, second_var, of_level, level_rule, made_grammar, word_tree, made_graph, level_line, words_text, made_text}
 use Rattle.qs_deck.specs.working.MadeParts.{numbered}
+use Rattle.qs_graph.proofs.Lay.{tree_in_chain}
 
 -- numbers
 
@@ -160,13 +159,6 @@ system_named k n system within e = record {
 }
 
 -- trees
-
-tree_in_chain : (a : ℕ) (ts : List Tree) (next b : ℕ) (arc : Arc) → arc ∈ chain a ts next b → arc.tree ∈ ts
-tree_in_chain a [] next b arc i = absurd i
-tree_in_chain a (t ∷ []) next b arc (inl e) = inl (ap (λ (x : Arc). x.tree) e)
-tree_in_chain a (t ∷ []) next b arc (inr i) = absurd i
-tree_in_chain a (t ∷ u ∷ ts) next b arc (inl e) = inl (ap (λ (x : Arc). x.tree) e)
-tree_in_chain a (t ∷ u ∷ ts) next b arc (inr i) = inr (tree_in_chain next (u ∷ ts) (next + 1) b arc i)
 
 -- the labels of a made deck are among its names
 pub systems_named : (k : ℕ) (names : List (List ℕ)) (old systems : List System) (system : System) → names ≡ made_names k → old ≡ [] → systems ≡ old ++ system ∷ []

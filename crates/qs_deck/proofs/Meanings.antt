@@ -4,6 +4,8 @@ use Rattle.std.specs.Prelude.{IsCharBoundary, Result, Ok, Err, IfOk, IfErr, IsEr
 use Rattle.std.specs.Str.{IsUtf8}
 use Rattle.std.specs.List.{All}
 use Rattle.std.proofs.lemmas.List.Elements.{All-head, All-tail}
+use Rattle.qs_io.specs.Limits.{most_text_bytes}
+use Rattle.qs_graph.specs.Limits.{most_read_arcs}
 use Rattle.qs_tree.specs.Lists.{◌∈◌}
 use Rattle.qs_tree.proofs.Members.{in_append_right, in_map, from_map, in_at}
 use Rattle.qs_lex.specs.declared.token.Token.{Token}
@@ -33,6 +35,7 @@ use Rattle.qs_graphtext.specs.declared.chain_end.ChainEnd.TheVariants as chain_e
 use Rattle.qs_graphtext.proofs.Bytes.{byte_of_graph, whole_graph, some_chain}
 use Rattle.qs_graphtext.proofs.Places.{graph_named}
 use Rattle.qs_graphtext.proofs.TreesLaid.{trees_laid, named_laid}
+use Rattle.qs_deck.specs.Limits.{most_systems}
 use Rattle.qs_deck.specs.WrittenDecks.{WrittenSystem, WrittenDeck, rules_of}
 use Rattle.qs_deck.specs.declared.system.System.{System}
 use Rattle.qs_deck.specs.Named.{IsRuleNamed, AreSystemsNamed}
@@ -109,7 +112,7 @@ module _ (text : List ℕ) (names : List (List ℕ)) (all front body rest : List
   pub can_all : All CanBeChecked (rules_of systems)
   can_all = systems_can names text body rest systems reads
 
-  pub few_each : length text ≤ 4194304 → All HasFewRules systems
+  pub few_each : length text ≤ most_text_bytes → All HasFewRules systems
   few_each short =
       systems_few names text body rest systems reads
       (omega (arith, short, few_tokens text 0 all (spans text all has) (omega (arith)), ap length are, length-append front body))
@@ -120,7 +123,7 @@ module _ (text : List ℕ) (names : List (List ℕ)) (all front body rest : List
   -- the checks
   check_byte : (cause : Cause) (at : ℕ) → IsFirstFault systems (Refused cause at) → IsByteOf all at
   check_byte cause at (inl x) =
-      behind_line at (subst (IsByteOf body) (sym x.3) (word_byte names text body rest systems reads x.0 (in_at systems 256 x.0 x.1)))
+      behind_line at (subst (IsByteOf body) (sym x.3) (word_byte names text body rest systems reads x.0 (in_at systems most_systems x.0 x.1)))
   check_byte cause at (inr x) =
       let f = x.1 in
       let among = subst (λ raws. f.raw ∈ raws) (sym f.are) (in_append_right f.front (f.raw ∷ f.behind) f.raw (inl refl)) in
@@ -149,7 +152,7 @@ module _ (text : List ℕ) (version : ℕ) (names : List (List ℕ)) (systems : 
   pub list_can : All CanBeChecked (rules_of systems)
   list_can = can_all text names w.tokens w.front w.body [] systems w.has_tokens w.are w.reads
 
-  pub list_few : length text ≤ 4194304 → All HasFewRules systems
+  pub list_few : length text ≤ most_text_bytes → All HasFewRules systems
   list_few = few_each text names w.tokens w.front w.body [] systems w.has_tokens w.are w.reads
 
   pub list_named : (read : List System) → map grammar_of read ≡ map meaning_of systems → AreSystemsNamed (length names) read
@@ -167,7 +170,7 @@ module _ (text : List ℕ) (version : ℕ) (names : List (List ℕ)) (deck : Wri
   pub can : All CanBeChecked (rules_of deck.systems)
   can = can_all text names w.tokens w.front w.body (w.reads.first ∷ w.reads.behind) deck.systems w.has_tokens w.are w.reads.systems
 
-  pub few : length text ≤ 4194304 → All HasFewRules deck.systems
+  pub few : length text ≤ most_text_bytes → All HasFewRules deck.systems
   few = few_each text names w.tokens w.front w.body (w.reads.first ∷ w.reads.behind) deck.systems w.has_tokens w.are w.reads.systems
 
   border : (byte : ℕ) → IsByteOf w.tokens byte → IsCharBoundary text byte
@@ -195,7 +198,7 @@ module _ (text : List ℕ) (version : ℕ) (names : List (List ℕ)) (deck : Wri
 
   pub graph_end_of : IsChecked deck.systems → (end : ChainEnd) → AreRefused deck.chains end → IsEndOf text (end_of_chains deck.graph_at end)
   graph_end_of checked (chain_end.TooManyArcs a) h =
-      (graph version names deck w checked (too_many_arcs h), border a (byte_behind a (byte_of_graph w.reads.graph a (in_at (places_in deck.chains) 65536 a h.1))))
+      (graph version names deck w checked (too_many_arcs h), border a (byte_behind a (byte_of_graph w.reads.graph a (in_at (places_in deck.chains) most_read_arcs a h.1))))
   graph_end_of checked chain_end.Cycle h = (graph version names deck w checked (cycle h), border deck.graph_at word_of_graph)
   graph_end_of checked chain_end.Entries h = (graph version names deck w checked (entries h), border deck.graph_at word_of_graph)
   graph_end_of checked chain_end.Exits h = (graph version names deck w checked (exits h), border deck.graph_at word_of_graph)

@@ -20,12 +20,7 @@ use Rattle.qs_graphtext.specs.Reading.{ReadsGraph, reads_graph}
 use Rattle.qs_graphtext.proofs.OneReading.{one_graph}
 use Rattle.qs_deck.specs.WrittenDecks.{WrittenSystem, WrittenDeck}
 use Rattle.qs_deck.specs.Reading.{ReadsMark, no_mark, a_mark, ReadsSystem, reads_system, ReadsSystems, ReadsDeck}
-
-first_of : {X : Type 0} {x y : X} {xs ys : List X} → x ∷ xs ≡ y ∷ ys → x ≡ y
-first_of e = cc
-
-rest_of : {X : Type 0} {x y : X} {xs ys : List X} → x ∷ xs ≡ y ∷ ys → xs ≡ ys
-rest_of e = cc
+use Rattle.qs_tree.proofs.Decisions.{cons_parts}
 
 -- rules that are the same, with the same bytes of their cells, are equal
 same_rules : (raws others : List WrittenRule) → map (λ (r : WrittenRule). r.rule) raws ≡ map (λ (r : WrittenRule). r.rule) others → map (λ (r : WrittenRule). r.at) raws ≡ map (λ (r : WrittenRule). r.at) others → raws ≡ others
@@ -33,9 +28,9 @@ same_rules [] [] e f = refl
 same_rules [] (s ∷ others) e f = absurd cc
 same_rules (r ∷ raws) [] e f = absurd cc
 same_rules (r ∷ raws) (s ∷ others) e f =
-    let rule : r.rule ≡ s.rule = first_of e in
-    let at : r.at ≡ s.at = first_of f in
-    let more = same_rules raws others (rest_of e) (rest_of f) in
+    let rule : r.rule ≡ s.rule = (cons_parts e).0 in
+    let at : r.at ≡ s.at = (cons_parts f).0 in
+    let more = same_rules raws others (cons_parts e).1 (cons_parts f).1 in
     λ i. record { rule = rule i; at = at i } ∷ more i
 
 -- ---- one reading
@@ -93,10 +88,10 @@ module _ (names : List (List ℕ)) (text : List ℕ) where
 
   -- what stands behind it is a stop
   one_mark : {a b : Bool} {marks more us vs : List Token} {v w : Token} → ReadsMark marks a (v ∷ us) → ReadsMark more b (w ∷ vs) → marks ≡ more → IsOf stop v → IsOf stop w → IsOneMark a b us vs
-  one_mark no_mark no_mark e is also = record { same = refl; rests = rest_of e }
-  one_mark (a_mark m) (a_mark n) e is also = record { same = refl; rests = rest_of (rest_of e) }
-  one_mark {v} no_mark (a_mark n) e is also = absurd (one_sort stop (the_word Unique) v refl is (subst (IsOf (the_word Unique)) (sym (first_of e)) n))
-  one_mark {w} (a_mark m) no_mark e is also = absurd (one_sort stop (the_word Unique) w refl also (subst (IsOf (the_word Unique)) (first_of e) m))
+  one_mark no_mark no_mark e is also = record { same = refl; rests = (cons_parts e).1 }
+  one_mark (a_mark m) (a_mark n) e is also = record { same = refl; rests = (cons_parts (cons_parts e).1).1 }
+  one_mark {v} no_mark (a_mark n) e is also = absurd (one_sort stop (the_word Unique) v refl is (subst (IsOf (the_word Unique)) (sym (cons_parts e).0) n))
+  one_mark {w} (a_mark m) no_mark e is also = absurd (one_sort stop (the_word Unique) w refl also (subst (IsOf (the_word Unique)) (cons_parts e).0 m))
 
   module _ (distinct : AreDistinct names) where
     one_system : {ts rest end : List Token} {a b : WrittenSystem} → ReadsSystem names text ts a rest → ReadsSystem names text ts b end → NoRuleIn rest → NoRuleIn end

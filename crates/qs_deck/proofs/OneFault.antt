@@ -23,6 +23,7 @@ use Rattle.qs_graph.specs.Graphs.{QGraph, IsValid}
 use Rattle.qs_graphtext.specs.WrittenChains.{WrittenChain}
 use Rattle.qs_graphtext.specs.GraphOfChains.{AreFew, AreRefused, graph_of}
 use Rattle.qs_graphtext.specs.declared.chain_end.ChainEnd.TheVariants as chain_end
+use Rattle.qs_deck.specs.Limits.{most_systems}
 use Rattle.qs_deck.specs.WrittenDecks.{WrittenSystem, WrittenDeck}
 use Rattle.qs_lex.specs.Grammar.{Form, part}
 use Rattle.qs_deck.specs.Grammar.{Part, deck}
@@ -113,8 +114,8 @@ none_refused : (front behind : List WrittenRule) (r : WrittenRule) (c : Cause) (
 none_refused [] behind r c p ok ends = not_refused r c p (accepted_first r behind ok) ends
 none_refused (x ∷ front) behind r c p ok ends = none_refused front behind r c p (accepted_rest x (front ++ r ∷ behind) ok) ends
 
-not_many : (systems : List WrittenSystem) (system : WrittenSystem) → slice_get systems 256 ≡ Some system → length systems ≤ 256 → ⊥
-not_many systems system there few = omega (arith, slice_get_within systems 256 system there)
+not_many : (systems : List WrittenSystem) (system : WrittenSystem) → slice_get systems most_systems ≡ Some system → length systems ≤ most_systems → ⊥
+not_many systems system there few = omega (arith, slice_get_within systems most_systems system there)
 
 pub one_check : (systems : List WrittenSystem) {p q : ℕ} {c f : Cause} → IsCheckFault systems p c → IsCheckFault systems q f → (p ≡ q) × (c ≡ f)
 one_check d (too_many_systems a there) (too_many_systems b also) =

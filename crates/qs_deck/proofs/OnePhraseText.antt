@@ -1,5 +1,5 @@
 -- A text means one phrase text, or has one first fault of such a text, and not both.
-use Rattle.std.proofs.Common.{◌≡◌, ℕ, zero, suc, ◌<◌, ◌≤◌, refl, sym, ◌∙◌, ap, subst, ⊎_elim, Option, Some, None, List, [], ◌∷◌, ◌++◌, length, map, slice_get, arith}
+use Rattle.std.proofs.Common.{◌≡◌, ℕ, refl, sym, ◌∙◌, ap, subst, Option, Some, None, List, [], ◌∷◌, ◌++◌, map, slice_get, arith}
 use Rattle.std.specs.List.{All, flat_map}
 use Rattle.std.proofs.lemmas.List.Elements.{All-head, All-tail}
 use Rattle.std.proofs.lemmas.Option.{slice_get_within}
@@ -9,25 +9,17 @@ use Rattle.qs_lex.specs.Refusals.{IsRefusedFor}
 use Rattle.qs_lex.proofs.Refusing as refusing
 use Rattle.qs_tree.specs.declared.cell.Label.{Label}
 use Rattle.qs_reader.proofs.Naming.{grow_distinct}
+use Rattle.qs_deck.specs.Limits.{most_words}
 use Rattle.qs_deck.specs.Decks.{Grammar}
-use Rattle.qs_deck.specs.GrammarLists.{AreGrammarsOf}
 use Rattle.qs_deck.specs.Segments.{Segment}
-use Rattle.qs_deck.specs.PhraseTexts.{border_of, grammar_part, lines_behind, words_of, most_words, IsShort, lines_with_words, AddsWords, named_by, written_in, IsPhraseText, IsPhraseFault, bytes, unwritten, no_border, check, too_many_words}
+use Rattle.qs_deck.specs.PhraseTexts.{grammar_part, lines_behind, words_of, IsShort, lines_with_words, AddsWords, named_by, written_in, IsPhraseText, IsPhraseFault, bytes, unwritten, no_border, check, too_many_words}
 use Rattle.qs_deck.proofs.OneFault.{none_twice}
 use Rattle.qs_deck.proofs.OneList as lists
 use Rattle.qs_deck.proofs.NamedWords.{one_adding, words_distinct, one_lines}
-
-same_some : {x y : ℕ} → Some x ≡ Some y → x ≡ y
-same_some e = cc
+use Rattle.qs_tree.proofs.Decisions.{cons_parts, same_there}
 
 never_none : {x : ℕ} {o : Option ℕ} → o ≡ Some x → o ≡ None → ⊥
 never_none e f = absurd cc
-
-first_is : {X : Type 0} {x y : X} {xs ys : List X} → x ∷ xs ≡ y ∷ ys → x ≡ y
-first_is e = cc
-
-rest_is : {X : Type 0} {x y : X} {xs ys : List X} → x ∷ xs ≡ y ∷ ys → xs ≡ ys
-rest_is e = cc
 
 -- a line with too many words isn't short
 not_short : (line word : Segment) → IsShort line → slice_get (words_of line) most_words ≡ Some word → ⊥
@@ -36,25 +28,25 @@ not_short line word short e = let l = slice_get_within (words_of line) most_word
 not_all_short : (front more : List Segment) (line word : Segment) (all : List Segment) → all ≡ front ++ line ∷ more → All IsShort all → slice_get (words_of line) most_words ≡ Some word → ⊥
 not_all_short [] more line word [] are short e = absurd cc
 not_all_short (l ∷ front) more line word [] are short e = absurd cc
-not_all_short [] more line word (x ∷ all) are short e = not_short line word (subst IsShort (first_is are) (All-head IsShort x all short)) e
-not_all_short (l ∷ front) more line word (x ∷ all) are short e = not_all_short front more line word all (rest_is are) (All-tail IsShort x all short) e
+not_all_short [] more line word (x ∷ all) are short e = not_short line word (subst IsShort (cons_parts are).0 (All-head IsShort x all short)) e
+not_all_short (l ∷ front) more line word (x ∷ all) are short e = not_all_short front more line word all (cons_parts are).1 (All-tail IsShort x all short) e
 
 -- the first line with too many words is one
 one_long : (front others more further : List Segment) (line next word other : Segment) → front ++ line ∷ more ≡ others ++ next ∷ further → All IsShort front → All IsShort others
     → slice_get (words_of line) most_words ≡ Some word → slice_get (words_of next) most_words ≡ Some other → word.at ≡ other.at
 one_long [] [] more further line next word other same a b e f =
-    let here : line ≡ next = first_is same in
+    let here : line ≡ next = (cons_parts same).0 in
     let found : Some word ≡ Some other = sym e ∙ ap (λ (l : Segment). slice_get (words_of l) most_words) here ∙ f in
     by_some found
   where
     by_some : {x y : Segment} → Some x ≡ Some y → x.at ≡ y.at
     by_some h = cc
 one_long [] (x ∷ others) more further line next word other same a b e f =
-    absurd (not_short line word (subst IsShort (sym (first_is same)) (All-head IsShort x others b)) e)
+    absurd (not_short line word (subst IsShort (sym (cons_parts same).0) (All-head IsShort x others b)) e)
 one_long (x ∷ front) [] more further line next word other same a b e f =
-    absurd (not_short next other (subst IsShort (first_is same) (All-head IsShort x front a)) f)
+    absurd (not_short next other (subst IsShort (cons_parts same).0 (All-head IsShort x front a)) f)
 one_long (x ∷ front) (y ∷ others) more further line next word other same a b e f =
-    one_long front others more further line next word other (rest_is same) (All-tail IsShort x front a) (All-tail IsShort y others b) e f
+    one_long front others more further line next word other (cons_parts same).1 (All-tail IsShort x front a) (All-tail IsShort y others b) e f
 
 -- each phase finds a fault only where those in front of it find none
 one_fault : {text : List ℕ} {p q : ℕ} {c d : Cause} → IsPhraseFault text p c → IsPhraseFault text q d → (p ≡ q) × (c ≡ d)
@@ -83,7 +75,7 @@ one_fault (too_many_words a v names s front more line word utf8 i f j o r) (unwr
 one_fault (too_many_words a v names s front more line word utf8 i f j o r) (no_border w others e too g h) = absurd (never_none i h)
 one_fault (too_many_words a v names s front more line word utf8 i f j o r) (check b w others e too g h k) = absurd (lists.grammars_without_check f h k)
 one_fault {text} (too_many_words a v names s front more line word utf8 i f j o r) (too_many_words b w others e before behind next other too g h k l m) =
-    let same : a ≡ b = same_some (sym i ∙ g) in
+    let same : a ≡ b = same_there i g in
     (one_long front before more behind line next word other (sym j ∙ ap (lines_behind text) same ∙ k) o l r m, refl)
 
 no_fault : {text : List ℕ} {version : ℕ} {names : List (List ℕ)} {grammars : List Grammar} {lines : List (List Label)} {p : ℕ} {c : Cause} → IsPhraseText text version names grammars lines → IsPhraseFault text p c → ⊥
@@ -92,7 +84,7 @@ no_fault of (unwritten utf8 f) = lists.written_without_fault of.are_grammars.are
 no_fault of (no_border w others e utf8 g h) = never_none of.border_is h
 no_fault of (check b w others e utf8 g h k) = lists.grammars_without_check of.are_grammars h k
 no_fault {text} of (too_many_words b w others e front more line word utf8 g h k l m) =
-    let same : of.border ≡ b = same_some (sym of.border_is ∙ g) in
+    let same : of.border ≡ b = same_there of.border_is g in
     not_all_short front more line word (lines_behind text of.border) (ap (lines_behind text) same ∙ k) of.short m
 
 -- ---- the answers
@@ -100,7 +92,7 @@ no_fault {text} of (too_many_words b w others e front more line word utf8 g h k 
 pub one_meaning : {text : List ℕ} {v w : ℕ} {names others : List (List ℕ)} {grammars more : List Grammar} {lines further : List (List Label)}
     → IsPhraseText text v names grammars lines → IsPhraseText text w others more further → (v ≡ w) × (names ≡ others) × (grammars ≡ more) × (lines ≡ further)
 one_meaning {text} {names = names} {others = others} {lines = lines} {further = further} a b =
-    let border : b.border ≡ a.border = same_some (sym b.border_is ∙ a.border_is) in
+    let border : b.border ≡ a.border = same_there b.border_is a.border_is in
     let one = lists.one_meaning a.are_grammars b.are_grammars in
     let adds = subst (λ old. AddsWords (flat_map words_of (lines_behind text a.border)) old others) (sym one.1) (subst (λ at. AddsWords (flat_map words_of (lines_behind text at)) b.grammar_names others) border b.names_are) in
     let same : names ≡ others = one_adding (flat_map words_of (lines_behind text a.border)) a.grammar_names names others a.names_are adds in

@@ -1,7 +1,7 @@
 -- Words that are parted into lines by their ends.
-use Rattle.std.proofs.Common.{◌≡◌, ℕ, zero, suc, ◌+◌, ◌-◌, ◌<◌, ◌≤◌, refl, sym, ◌∙◌, ap, subst, List, [], ◌∷◌, length, take, drop, get_or, Some, slice_get, arith, length-drop}
+use Rattle.std.proofs.Common.{◌≡◌, ℕ, zero, suc, ◌+◌, ◌-◌, ◌<◌, ◌≤◌, refl, sym, ◌∙◌, ap, List, [], ◌∷◌, length, take, drop, get_or, Some, slice_get, arith, length-drop}
 use Rattle.std.proofs.lemmas.List.{drop-drop, length-take-le, get_or_read}
-use Rattle.qs_deck.specs.PhraseTexts.{most_words}
+use Rattle.qs_deck.specs.Limits.{most_words}
 use Rattle.qs_deck.specs.LinesOfWords.{parted, AreEnds}
 
 pub as_many_lines : {X : Type 0} (from : ℕ) (words : List X) (ends : List ℕ) → length (parted from words ends) ≡ length ends

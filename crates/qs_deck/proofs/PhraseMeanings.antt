@@ -1,6 +1,6 @@
 -- What a phrase text means, and how it is refused.
 use Rattle.std.proofs.Common.{◌≡◌, ℕ, ◌≤◌, refl, sym, ◌∙◌, ap, subst, Option, Some, None, List, [], length, map, arith}
-use Rattle.std.specs.Prelude.{IsCharBoundary, Result, Ok, Err, IfErr, take, ◌+◌, ◌==◌, count_by, chars, not}
+use Rattle.std.specs.Prelude.{IsCharBoundary, Result, Ok, Err, IfErr, ◌+◌, ◌==◌, count_by, chars, not}
 use Rattle.std.specs.List.{suffix_len}
 use Rattle.std.specs.Str.{IsUtf8}
 use Rattle.std.proofs.lemmas.Str.{IsCharBoundary-end}
@@ -15,6 +15,7 @@ use Rattle.qs_lex.specs.Refusals as lexing
 use Rattle.qs_lex.proofs.Refusing.{refused}
 use Rattle.qs_check.specs.declared.checking.CheckEnd.{CheckEnd}
 use Rattle.qs_check.specs.declared.checking.CheckEnd.TheVariants as check_end
+use Rattle.qs_deck.specs.Limits.{most_systems}
 use Rattle.qs_deck.specs.WrittenDecks.{WrittenSystem, rules_of}
 use Rattle.qs_deck.specs.declared.deck.DeckEnd.{DeckEnd}
 use Rattle.qs_deck.specs.declared.deck.DeckEnd.TheVariants as deck_end
@@ -69,7 +70,7 @@ module _ (text part : List ℕ) (version : ℕ) (names : List (List ℕ)) (syste
   no_border_end (Some at) is never = absurd (never at refl)
 
   -- the grammars
-  pub grammars_of_part : (read : List System) → length systems ≤ 256 → AreAccepted (rules_of systems) → map grammar_of read ≡ map meaning_of systems → AreGrammarsOf (grammar_part text) version names (map grammar_of read)
+  pub grammars_of_part : (read : List System) → length systems ≤ most_systems → AreAccepted (rules_of systems) → map grammar_of read ≡ map meaning_of systems → AreGrammarsOf (grammar_part text) version names (map grammar_of read)
   grammars_of_part read few accepted are = record { written = systems; are_written = written_part; checked = record { few = few; accepted = accepted }; grammars_are = are }
 
   -- the checks

@@ -1,10 +1,9 @@
 -- The place at which a form can't go on.
-use Rattle.std.proofs.Common.{◌≡◌, ℕ, ◌+◌, ◌-◌, ◌≤◌, false, refl, sym, ◌∙◌, ap, subst, ⊎_elim, inl, List, [], ◌∷◌, ◌++◌, length, take, Some, length-append, arith}
+use Rattle.std.proofs.Common.{◌≡◌, ℕ, ◌+◌, ◌-◌, ◌≤◌, refl, sym, ◌∙◌, ap, subst, ⊎_elim, inl, List, [], ◌∷◌, ◌++◌, length, take, Some, length-append, arith}
 use Rattle.std.specs.Prelude.{slice_get}
 use Rattle.std.proofs.Math.Seq.{take-append_seam}
 use Rattle.qs_lex.specs.declared.token.Token.{Token}
 use Rattle.qs_lex.specs.Grammar.{Form, Begins}
-use Rattle.qs_lex.specs.Expecting.{NextIsNo}
 use Rattle.qs_lex.specs.working.Expecting.{BeginAll, NotWithNext, Stops}
 use Rattle.qs_lex.proofs.Expected.{whole_begins}
 use Rattle.qs_graphtext.specs.WrittenChains.{WrittenChain}
@@ -16,11 +15,6 @@ use Rattle.qs_deck.specs.working.Syntax.{StopsBehind}
 pub first_of : {names : List (List ℕ)} {text : List ℕ} {ts rest : List Token} {chains : List WrittenChain} → ReadsGraph names text ts chains rest
     → (t : Token) × (us : List Token) × (ts ≡ t ∷ us)
 first_of (reads_graph {t} {ts} g r f) = (t, ts, refl)
-
--- no token is of no sort
-pub no_sort : (ts : List Token) → NextIsNo (λ k. false) ts
-no_sort [] = tt
-no_sort (t ∷ ts) = refl
 
 -- where a form can't go on
 begin_one : (form : Form Part) (ts : List Token) → BeginAll line (form ∷ []) ts → Begins line form ts

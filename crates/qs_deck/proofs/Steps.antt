@@ -8,6 +8,7 @@ use Rattle.qs_lex.specs.Expecting.{NextIsNo}
 use Rattle.qs_lex.specs.Nesting.{IsTooDeep}
 use Rattle.qs_lex.proofs.Renaming.{whole_in}
 use Rattle.qs_lex.proofs.Stopping.{front_of}
+use Rattle.qs_lex.proofs.Predictive.{not_true}
 use Rattle.qs_tree.specs.declared.cell.Label.{Label}
 use Rattle.qs_reader.specs.declared.text_end.TextEnd.{TextEnd}
 use Rattle.qs_reader.specs.declared.text_end.TextEnd.TheVariants.{Syntax, Memory}
@@ -59,14 +60,10 @@ begins_tree_sort slash e = absurd (false≢true e)
 begins_tree_sort equals e = absurd (false≢true e)
 begins_tree_sort stop e = absurd (false≢true e)
 
-fails : (b : Bool) → (b ≡ true → ⊥) → b ≡ false
-fails true n = absurd (n refl)
-fails false n = refl
-
 pub no_rule_next : (ts : List Token) (at : ℕ) → NoRuleAt ts at → NextIsNo begins_tree (drop at ts)
 no_rule_next [] zero n = tt
 no_rule_next [] (suc at) n = tt
-no_rule_next (t ∷ ts) zero n = fails (begins_tree (sort_of t.kind)) (λ e. n t refl (tree_begins_rule t (begins_tree_sort (sort_of t.kind) e)))
+no_rule_next (t ∷ ts) zero n = not_true (begins_tree (sort_of t.kind)) (λ e. n t refl (tree_begins_rule t (begins_tree_sort (sort_of t.kind) e)))
 no_rule_next (t ∷ ts) (suc at) n = no_rule_next ts at n
 
 -- the tokens stay the same

@@ -1,5 +1,5 @@
 -- Passing the line of the version.
-use Rattle.std.proofs.Common.{◌≡◌, ℕ, suc, ◌+◌, ◌-◌, ◌≤◌, refl, sym, ap, ◌∙◌, subst, ⊎_elim, List, [], ◌∷◌, ◌++◌, length, drop, Some, slice_get, arith, append-nil, length-append, length-drop}
+use Rattle.std.proofs.Common.{◌≡◌, ℕ, suc, ◌+◌, ◌-◌, ◌≤◌, refl, sym, ap, ◌∙◌, subst, ⊎_elim, List, [], ◌∷◌, ◌++◌, length, drop, Some, slice_get, arith, append-nil, length-append, length-drop, false}
 use Rattle.std.proofs.lemmas.Bool.{false≢true}
 use Rattle.qs_lex.specs.declared.token.Token.{Token}
 use Rattle.qs_lex.specs.declared.token.Word.TheVariants.{Version}
@@ -9,6 +9,7 @@ use Rattle.qs_lex.specs.Expecting.{same_sort, NextIsNo}
 use Rattle.qs_lex.specs.working.Expecting.{IsPredictive, Stops}
 use Rattle.qs_lex.proofs.Expected.{same_itself}
 use Rattle.qs_lex.proofs.Going.{stops_here, stops_behind}
+use Rattle.qs_lex.proofs.Stopping as stopping
 use Rattle.qs_reader.specs.declared.text_end.TextEnd.{TextEnd}
 use Rattle.qs_reader.specs.declared.text_end.TextEnd.TheVariants.{Syntax, Memory}
 use Rattle.qs_reader.specs.Names.{NamesGrow}
@@ -25,7 +26,7 @@ use Rattle.qs_deck.specs.Syntax.{StopsText}
 use Rattle.qs_deck.specs.working.Syntax.{StopsBehind}
 use Rattle.qs_deck.specs.working.Readers.{table, IsRead, Ends, some_systems, Systems, ADeck}
 use Rattle.qs_deck.proofs.Tables.{more, ok}
-use Rattle.qs_deck.proofs.Places.{no_sort, cannot_go_on}
+use Rattle.qs_deck.proofs.Places.{cannot_go_on}
 use Rattle.qs_deck.specs.working.Versions.{PassesLine, IsReadAs, AreReadAs, EndsIn}
 use Rattle.qs_deck.proofs.Versions.{each_version, stops_at_word, stops_at_number, stops_at_dot, stops_first, stops_second}
 
@@ -151,7 +152,7 @@ module _ (form : Form Part) (good : IsPredictive table more form) {r s : Reading
     pub ends_behind_form : {t : Token} {end : TextEnd} → IsNext t u → end ≡ Syntax u.place → EndsIn form r.text r.tokens end
     ends_behind_form {t} n is =
         let some : rest_of u ≡ [] → ⊥ = λ e. let cut : t ∷ n.behind ≡ [] = sym n.are ∙ e in absurd cc in
-        let stopped = stops_behind (taken_leads table more ok [] good (λ k s. absurd (false≢true s)) read.takes) (stops_here [] (rest_of u) ok.table_is (λ e. absurd (some e)) (no_sort (rest_of u))) in
+        let stopped = stops_behind (taken_leads table more ok [] good (λ k s. absurd (false≢true s)) read.takes) (stops_here [] (rest_of u) ok.table_is (λ e. absurd (some e)) (stopping.nothing_next (λ k. false) (rest_of u) (λ k. refl))) in
         let at : ℕ = u.place - s.place in
         let within : at ≤ length (rest_of s) = omega (arith, length-drop s.place s.tokens, read.goes_on.forward, read.goes_on.within, ap length read.goes_on.tokens) in
         let many : length (rest_of u) ≡ length (rest_of s) - at = omega (arith, length-drop u.place u.tokens, length-drop s.place s.tokens, read.goes_on.forward, read.goes_on.within, ap length read.goes_on.tokens) in

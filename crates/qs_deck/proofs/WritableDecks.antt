@@ -6,6 +6,7 @@ use Rattle.std.proofs.lemmas.List.{length-map}
 use Rattle.std.proofs.lemmas.Option.{slice_get-get_or}
 use Rattle.std.proofs.lemmas.Map.Made.{distinct_count-le}
 use Rattle.std.specs.Prelude.{nat_eq}
+use Rattle.qs_lex.specs.Limits.{most_node_number}
 use Rattle.qs_lex.specs.declared.token.Token.{Token}
 use Rattle.qs_lex.specs.Tokens.{version_of, AreTokensOf, IsTokenOf}
 use Rattle.qs_tree.specs.Lists.{◌∈◌}
@@ -90,7 +91,7 @@ module _ {text : List ℕ} {version : ℕ} {names : List (List ℕ)} {grammars :
       from_map meaning_of deck.systems (IsWritableGrammar (version_of text) (length names)) system_writable grammar (subst (λ gs. grammar ∈ gs) is.grammars_are i)
 
   -- at most two nodes for each chain, and fewer inner ones than trees
-  few_nodes : G.nodes ≤ 999999999
+  few_nodes : G.nodes ≤ most_node_number
   few_nodes =
       let chains : List WrittenChain = deck.chains in
       let numbers = numbers_few chains (chains_whole text version names deck is.is_written) in
@@ -101,7 +102,7 @@ module _ {text : List ℕ} {version : ℕ} {names : List (List ℕ)} {grammars :
   pub known_version : (version ≡ 1) ⊎ (version ≡ 2)
   known_version = subst (λ v. (v ≡ 1) ⊎ (v ≡ 2)) (sym is.is_written.version_is) (each_version text)
 
-  pub writable_deck : (1 ≤ length grammars) × ((grammar : Grammar) → grammar ∈ grammars → IsWritableGrammar (version_of text) (length names) grammar) × IsValid G × (G.nodes ≤ 999999999) × AreArcsNamed (length names) G.arcs
+  pub writable_deck : (1 ≤ length grammars) × ((grammar : Grammar) → grammar ∈ grammars → IsWritableGrammar (version_of text) (length names) grammar) × IsValid G × (G.nodes ≤ most_node_number) × AreArcsNamed (length names) G.arcs
   writable_deck = (
     some_grammar,
     grammar_writable,

@@ -3,6 +3,7 @@
 -- (1970); their spelling, limits and refusals are this project's own.
 pub mod Grammar
 pub mod Versions
+pub mod Limits
 pub mod WrittenDecks
 pub mod Reading
 pub mod Syntax

@@ -1,6 +1,6 @@
 -- How lines of words stand flat. (This project.)
+use Rattle.qs_deck.specs.Limits.{most_words}
 use Rattle.std.specs.Prelude.{ℕ, ◌+◌, ◌-◌, ◌<◌, ◌≤◌, List, [], ◌∷◌, take, drop}
-use Rattle.qs_deck.specs.PhraseTexts.{most_words}
 
 -- Words that stand one behind the other, parted into lines; the numbers count the words up to the end of each line, and
 -- the first those in front of them.

@@ -1,5 +1,5 @@
 -- A phrase text, with its parts worked out.
-use Rattle.std.specs.Prelude.{ℕ, List, [], ◌∷◌, ◌++◌, map, codes}
+use Rattle.std.specs.Prelude.{ℕ, List, ◌++◌, map, codes}
 use Rattle.qs_graphtext.specs.Texts.{line}
 use Rattle.qs_deck.specs.Segments.{Segment}
 

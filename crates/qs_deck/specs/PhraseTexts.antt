@@ -11,6 +11,7 @@ use Rattle.qs_lex.specs.Characters.{line_feed, carriage_return}
 use Rattle.qs_lex.specs.Refusals.{IsRefusedFor}
 use Rattle.qs_tree.specs.declared.cell.Label.{Label}
 use Rattle.qs_reader.specs.Names.{AddsName}
+use Rattle.qs_deck.specs.Limits.{most_words}
 use Rattle.qs_deck.specs.declared.deck.DeckEnd.{DeckEnd}
 use Rattle.qs_deck.specs.declared.deck.DeckEnd.TheVariants.{Refused, Memory}
 use Rattle.qs_deck.specs.WrittenDecks.{WrittenSystem}
@@ -36,10 +37,6 @@ has_bytes segment = nat_lt 0 (length segment.bytes)
 
 abbrev pub words_of : Segment → List Segment
 words_of line = filter has_bytes (cut is_blank line.at line.bytes)
-
--- The most words of a line.
-abbrev pub most_words : ℕ
-most_words = 65536
 
 abbrev pub IsShort : Segment → Type 0
 IsShort line = length (words_of line) ≤ most_words

@@ -2,6 +2,7 @@
 
 ghost use Rattle.std.specs.Prelude.{◌≡◌, ◌<◌, ◌≤◌, IfOk, IfErr, length, map};
 ghost use Rattle.std.specs.List.{All};
+ghost use Rattle.qs_deck.specs.Limits.{most_systems};
 ghost use Rattle.qs_check.specs.Checking.{CanBeChecked};
 ghost use Rattle.qs_deck.specs.Decks.{rule_of, grammar_of, meaning_of};
 ghost use Rattle.qs_deck.specs.WrittenDecks.{rules_of};
@@ -77,7 +78,7 @@ pub fn checked(alloc: Global, systems: Vec<RawSystem>) -> Result<Vec<System>, Ch
     requires can { All CanBeChecked (rules_of systems.items) }
     requires few { All (λ system. length system.rules < 4294967295) systems.items }
     ensures systems { IfOk result (λ checked. map grammar_of checked.items ≡ map meaning_of systems.items) }
-    ensures few { IfOk result (λ _. length systems.items ≤ 256) }
+    ensures few { IfOk result (λ _. length systems.items ≤ most_systems) }
     ensures accepted { IfOk result (λ _. AreAccepted (rules_of systems.items)) }
     ensures refused { IfErr result (IsFirstFault systems.items) }
 {

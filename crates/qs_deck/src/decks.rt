@@ -2,6 +2,7 @@
 
 ghost use Rattle.std.specs.Prelude.{◌≡◌, ◌≤◌, ◌^◌, ◌<◌, ℕ, List, [], IfOk, IfErr, IsErr, IsCharBoundary, length, map};
 ghost use Rattle.std.specs.Str.{IsUtf8, IsValidUpTo};
+ghost use Rattle.qs_io.specs.Limits.{most_text_bytes};
 ghost use Rattle.qs_lex.specs.Tokens.{AreTokensOf, AreSpansFrom};
 ghost use Rattle.qs_lex.specs.Nesting.{IsTooDeep};
 ghost use Rattle.qs_lex.specs.Refusals.{Tells};
@@ -31,7 +32,7 @@ use std::str;
 /// The refusal of bytes that aren't UTF-8. The longest front that is has so many bytes.
 pub fn not_utf8(bytes: &[u8], valid: usize) -> Refusal
     requires valid { IsValidUpTo bytes.now valid }
-    requires short { length bytes.now ≤ 4194304 }
+    requires short { length bytes.now ≤ most_text_bytes }
     ensures { Tells bytes.now valid Cause.NotUtf8 result }
 {
     let text = str::from_utf8(&bytes[..valid]).unwrap();
@@ -41,7 +42,7 @@ pub fn not_utf8(bytes: &[u8], valid: usize) -> Refusal
 /// The byte at which the token with this index begins; the length of the text where there is no such token.
 pub fn byte_of(text: &str, tokens: &[Token], index: usize) -> u32
     requires spans { AreSpansFrom text.now 0 tokens.now }
-    requires short { length text.now ≤ 4194304 }
+    requires short { length text.now ≤ most_text_bytes }
     ensures value { result ≡ byte_of text.now tokens.now index }
     ensures border { IsCharBoundary text.now result }
 {
@@ -55,7 +56,7 @@ pub fn byte_of(text: &str, tokens: &[Token], index: usize) -> u32
 pub fn shallow(text: &str, tokens: &[Token]) -> Result<(), FaultEnd>
     requires of_text { AreTokensOf text.now tokens.now }
     requires spans { AreSpansFrom text.now 0 tokens.now }
-    requires short { length text.now ≤ 4194304 }
+    requires short { length text.now ≤ most_text_bytes }
     requires utf8 { IsUtf8 text.now }
     ensures shallow { IfOk result (λ _. (index : ℕ) → IsTooDeep tokens.now index → ⊥) }
     ensures end { IfErr result (IsEndOf text.now) }
@@ -71,10 +72,14 @@ pub fn shallow(text: &str, tokens: &[Token]) -> Result<(), FaultEnd>
 }
 
 /// The version of the text, the written deck that these tokens of it are, and the names of its labels.
-fn written(alloc: Global, text: &str, tokens: &[Token]) -> Result<(u8, Names, RawDeck), FaultEnd>
+fn written_deck(
+    alloc: Global,
+    text: &str,
+    tokens: &[Token],
+) -> Result<(u8, Names, RawDeck), FaultEnd>
     requires of_text { AreTokensOf text.now tokens.now }
     requires spans { AreSpansFrom text.now 0 tokens.now }
-    requires short { length text.now ≤ 4194304 }
+    requires short { length text.now ≤ most_text_bytes }
     requires utf8 { IsUtf8 text.now }
     requires shallow { (index : ℕ) → IsTooDeep tokens.now index → ⊥ }
     ensures written { IfOk result (λ found. IsWritten text.now found.0 found.1 found.2) }
@@ -109,14 +114,14 @@ fn graph_end(graph_at: u32, end: ChainEnd) -> FaultEnd
 fn deck_of_tokens(alloc: Global, text: &str, tokens: &[Token]) -> Result<Deck, FaultEnd>
     requires of_text { AreTokensOf text.now tokens.now }
     requires spans { AreSpansFrom text.now 0 tokens.now }
-    requires short { length text.now ≤ 4194304 }
+    requires short { length text.now ≤ most_text_bytes }
     requires utf8 { IsUtf8 text.now }
     ensures deck { IfOk result (λ deck. IsDeckOf text.now deck.version deck.names
         (map grammar_of deck.systems.items) deck.graph) }
     ensures end { IfErr result (IsEndOf text.now) }
 {
     shallow(text, tokens)?;
-    let (version, names, deck) = written(alloc, text, tokens)?;
+    let (version, names, deck) = written_deck(alloc, text, tokens)?;
     let RawDeck {
         systems,
         graph_at,
@@ -137,7 +142,7 @@ fn deck_of_tokens(alloc: Global, text: &str, tokens: &[Token]) -> Result<Deck, F
 /// What is told of a text that means no deck, no list of grammars, or no phrase text.
 pub fn told(text: &str, end: FaultEnd) -> DeckEnd
     requires between { IsBetween text.now end }
-    requires short { length text.now ≤ 4194304 }
+    requires short { length text.now ≤ most_text_bytes }
     ensures deck { IsEndOf text.now end → EndsFor text.now result }
     ensures grammars { IsEndOfGrammars text.now end → EndsForGrammars text.now result }
     ensures phrases { IsEndOfPhrases text.now end → EndsForPhrases text.now result }
@@ -150,7 +155,7 @@ pub fn told(text: &str, end: FaultEnd) -> DeckEnd
 
 /// The deck that a text in UTF-8 means, or its first fault.
 fn deck_of_text(alloc: Global, text: &str) -> Result<Deck, DeckEnd>
-    requires short { length text.now ≤ 4194304 }
+    requires short { length text.now ≤ most_text_bytes }
     requires utf8 { IsUtf8 text.now }
     ensures deck { IfOk result (λ deck. IsDeckOf text.now deck.version deck.names
         (map grammar_of deck.systems.items) deck.graph) }
@@ -165,7 +170,7 @@ fn deck_of_text(alloc: Global, text: &str) -> Result<Deck, DeckEnd>
 
 /// The deck that the text means, or its first fault.
 fn deck_of_bytes(alloc: Global, bytes: &[u8]) -> Result<Deck, DeckEnd>
-    requires { length bytes.now ≤ 4194304 }
+    requires { length bytes.now ≤ most_text_bytes }
     ensures deck { IfOk result (λ deck. IsDeckOf bytes.now deck.version deck.names
         (map grammar_of deck.systems.items) deck.graph) }
     ensures end { IfErr result (EndsFor bytes.now) }
@@ -184,7 +189,7 @@ fn deck_of_bytes(alloc: Global, bytes: &[u8]) -> Result<Deck, DeckEnd>
 ///
 /// What `write_deck` writes of a deck that was read is itself accepted, and means the same deck.
 pub fn read_deck(alloc: Global, bytes: &[u8]) -> Result<Deck, DeckEnd>
-    requires { length bytes.now ≤ 4194304 }
+    requires { length bytes.now ≤ most_text_bytes }
     ensures deck { IfOk result (λ deck. IsDeckOf bytes.now deck.version deck.names
         (map grammar_of deck.systems.items) deck.graph) }
     ensures end { IfErr result (EndsFor bytes.now) }

@@ -2,6 +2,7 @@
 
 ghost use Rattle.std.specs.Prelude.{◌≡◌, ◌≤◌, ℕ, List, IfOk, IfErr, IsErr, length, map};
 ghost use Rattle.std.specs.Str.{IsUtf8};
+ghost use Rattle.qs_io.specs.Limits.{most_text_bytes};
 ghost use Rattle.qs_lex.specs.Tokens.{AreTokensOf, AreSpansFrom};
 ghost use Rattle.qs_deck.specs.Decks.{Grammar, grammar_of};
 ghost use Rattle.qs_deck.specs.Named.{AreSystemsNamed};
@@ -25,14 +26,14 @@ use std::alloc::Global;
 use std::str;
 
 /// The version of the text, the written grammars that these tokens of it are, and the names of their labels.
-pub fn written(
+pub fn written_grammars(
     alloc: Global,
     text: &str,
     tokens: &[Token],
 ) -> Result<(u8, Names, Vec<RawSystem>), FaultEnd>
     requires of_text { AreTokensOf text.now tokens.now }
     requires spans { AreSpansFrom text.now 0 tokens.now }
-    requires short { length text.now ≤ 4194304 }
+    requires short { length text.now ≤ most_text_bytes }
     requires utf8 { IsUtf8 text.now }
     ensures written { IfOk result (λ found. AreWritten text.now found.0 found.1 found.2.items) }
     ensures few { IfOk result (λ found. length found.1 ≤ length text.now) }
@@ -58,21 +59,21 @@ fn systems_of_tokens(
 ) -> Result<(Names, Vec<System>, u8), FaultEnd>
     requires of_text { AreTokensOf text.now tokens.now }
     requires spans { AreSpansFrom text.now 0 tokens.now }
-    requires short { length text.now ≤ 4194304 }
+    requires short { length text.now ≤ most_text_bytes }
     requires utf8 { IsUtf8 text.now }
     ensures systems { IfOk result (λ found. AreGrammarsOf text.now found.2 found.0 (map grammar_of found.1.items)) }
     ensures named { IfOk result (λ found. AreSystemsNamed (length found.0) found.1.items) }
     ensures few { IfOk result (λ found. length found.0 ≤ length text.now) }
     ensures end { IfErr result (IsEndOfGrammars text.now) }
 {
-    let (version, names, raws) = written(alloc, text, tokens)?;
+    let (version, names, raws) = written_grammars(alloc, text, tokens)?;
     let systems = checked(alloc, raws)?;
     Ok((names, systems, version))
 }
 
 /// The grammars that a text in UTF-8 means, or its first fault.
 fn systems_of_text(alloc: Global, text: &str) -> Result<(Names, Vec<System>, u8), DeckEnd>
-    requires short { length text.now ≤ 4194304 }
+    requires short { length text.now ≤ most_text_bytes }
     requires utf8 { IsUtf8 text.now }
     ensures systems { IfOk result (λ found. AreGrammarsOf text.now found.2 found.0 (map grammar_of found.1.items)) }
     ensures named { IfOk result (λ found. AreSystemsNamed (length found.0) found.1.items) }
@@ -88,7 +89,7 @@ fn systems_of_text(alloc: Global, text: &str) -> Result<(Names, Vec<System>, u8)
 
 /// The grammars that the text means, or its first fault.
 fn systems_of_bytes(alloc: Global, bytes: &[u8]) -> Result<(Names, Vec<System>, u8), DeckEnd>
-    requires { length bytes.now ≤ 4194304 }
+    requires { length bytes.now ≤ most_text_bytes }
     ensures systems { IfOk result (λ found. AreGrammarsOf bytes.now found.2 found.0 (map grammar_of found.1.items)) }
     ensures named { IfOk result (λ found. AreSystemsNamed (length found.0) found.1.items) }
     ensures few { IfOk result (λ found. length found.0 ≤ length bytes.now) }
@@ -108,7 +109,7 @@ fn systems_of_bytes(alloc: Global, bytes: &[u8]) -> Result<(Names, Vec<System>, 
 /// isn't accepted, with the line, the column and the cause of its first fault. The bytes are looked at first, then
 /// tokens, nesting, syntax, and the checks of grammars and rules. `Memory` may come for any text.
 pub fn read_systems(alloc: Global, bytes: &[u8]) -> Result<(Names, Vec<System>, u8), DeckEnd>
-    requires { length bytes.now ≤ 4194304 }
+    requires { length bytes.now ≤ most_text_bytes }
     ensures systems { IfOk result (λ found. AreGrammarsOf bytes.now found.2 found.0 (map grammar_of found.1.items)) }
     ensures named { IfOk result (λ found. AreSystemsNamed (length found.0) found.1.items) }
     ensures few { IfOk result (λ found. length found.0 ≤ length bytes.now) }

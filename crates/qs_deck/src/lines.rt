@@ -4,6 +4,7 @@ ghost use Rattle.std.specs.Prelude.{◌≡◌, ◌≤◌, ◌<◌, ◌+◌, ◌=
 ghost use Rattle.std.specs.Prelude.{length, ◌++◌, ◌∷◌, []};
 ghost use Rattle.std.specs.List.{prefix_len};
 ghost use Rattle.std.specs.Str.{IsUtf8};
+ghost use Rattle.qs_io.specs.Limits.{most_text_bytes};
 ghost use Rattle.qs_lex.specs.Characters.{line_feed};
 ghost use Rattle.qs_deck.specs.PhraseTexts.{is_blank, border_of, lines_behind};
 ghost use Rattle.qs_deck.specs.working.Phrases.{AddsWord, ReadsWords, ReadsWordsTo, ReadsLines, ReadsLinesTo};
@@ -46,7 +47,7 @@ fn word_len(bytes: &[u8]) -> usize
 
 /// The byte at which the first line begins that is exactly `-PHRASES-`.
 pub fn border_of(text: &str) -> Option<usize>
-    requires short { length text.now ≤ 4194304 }
+    requires short { length text.now ≤ most_text_bytes }
     ensures { result ≡ border_of text.now }
 {
     let bytes = text.as_bytes();
@@ -79,7 +80,7 @@ fn read_words(
     names: &mut Names,
     words: &mut Vec<Label>,
 ) -> Result<(), FaultEnd>
-    requires short { length text.now ≤ 4194304 }
+    requires short { length text.now ≤ most_text_bytes }
     requires utf8 { IsUtf8 text.now }
     requires border { IsCharBoundary text.now from }
     requires few_names { length names.old < from }
@@ -122,7 +123,7 @@ pub fn read_lines(
     border: usize,
     names: &mut Names,
 ) -> Result<WordLines, FaultEnd>
-    requires short { length text.now ≤ 4194304 }
+    requires short { length text.now ≤ most_text_bytes }
     requires utf8 { IsUtf8 text.now }
     requires border { border_of text.now ≡ Some border }
     requires room { length names.old ≤ border }

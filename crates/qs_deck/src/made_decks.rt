@@ -3,6 +3,7 @@
 ghost use Rattle.std.specs.Prelude.{◌≡◌, ◌≤◌, ◌<◌, ◌+◌, ◌-◌, ◌^◌, ℕ, [], ◌∷◌, ◌++◌, IfOk, OnOk, Contains, length, map};
 ghost use Rattle.std.specs.List.{range_with_len};
 ghost use Rattle.std.specs.String.{string_bytes};
+ghost use Rattle.qs_deck.specs.Limits.{most_size};
 ghost use Rattle.qs_pattern.specs.Patterns.{Patterns, no_pattern, node_first, pattern_before, patterns};
 ghost use Rattle.qs_deck.specs.Decks.{grammar_of};
 ghost use Rattle.qs_deck.specs.MadeDecks.{made_names, first_var, second_var, of_level, level_rule, made_grammar};
@@ -21,7 +22,7 @@ const NAME: Label = Label(0);
 
 /// The number of words in the made deck of this size.
 pub fn word_count(size: u32) -> u32
-    requires { size ≤ 13 }
+    requires { size ≤ most_size }
     ensures value { result ≡ 2 ^ size }
     ensures some { 1 ≤ result }
     ensures few { result ≤ 8192 }
@@ -58,7 +59,7 @@ fn intern_numbered(
 
 /// The names of the made deck of this size.
 fn made_names(alloc: Global, size: u32) -> Result<Names, AllocError>
-    requires { size ≤ 13 }
+    requires { size ≤ most_size }
     ensures { IfOk result (λ names. names ≡ made_names size) }
 {
     let mut names = Names::new(alloc);
@@ -110,7 +111,7 @@ fn one(alloc: Global, pattern: Pattern) -> Result<Vec<Pattern>, AllocError>
 
 /// The pattern of a tree of this level that has one subtree, for which the variable stands.
 fn of_level(alloc: Global, level: u32, var: Var) -> Result<Pattern, AllocError>
-    requires { level ≤ 13 }
+    requires { level ≤ most_size }
     ensures { IfOk result (λ pattern. (behind : Patterns) → pattern_before pattern behind ≡ of_level level var behind) }
 {
     Ok(labelled(Label(level + 1), one(alloc, Pattern::Tree(var))?))
@@ -118,7 +119,7 @@ fn of_level(alloc: Global, level: u32, var: Var) -> Result<Pattern, AllocError>
 
 /// The left side of the rule that joins two trees of this level.
 fn level_left(alloc: Global, level: u32) -> Result<Vec<Pattern>, AllocError>
-    requires { level ≤ 13 }
+    requires { level ≤ most_size }
     ensures { IfOk result (λ side.
         patterns side.items ≡ of_level level first_var (of_level level second_var no_pattern)) }
 {
@@ -132,7 +133,7 @@ fn level_left(alloc: Global, level: u32) -> Result<Vec<Pattern>, AllocError>
 
 /// A side of one tree of this level.
 fn level_right(alloc: Global, level: u32) -> Result<Vec<Pattern>, AllocError>
-    requires { level ≤ 13 }
+    requires { level ≤ most_size }
     ensures { IfOk result (λ side. patterns side.items ≡ of_level level first_var no_pattern) }
 {
     let tree = of_level(alloc, level, first_var())?;
@@ -141,7 +142,7 @@ fn level_right(alloc: Global, level: u32) -> Result<Vec<Pattern>, AllocError>
 
 /// The rule that joins two trees of this level.
 fn level_rule(alloc: Global, level: u32) -> Result<Rule, AllocError>
-    requires { level < 13 }
+    requires { level < most_size }
     ensures { IfOk result (λ rule. rule ≡ level_rule level) }
 {
     let left = level_left(alloc, level)?;
@@ -151,7 +152,7 @@ fn level_rule(alloc: Global, level: u32) -> Result<Rule, AllocError>
 
 /// The grammar of the made deck of this size.
 fn made_grammar(alloc: Global, size: u32) -> Result<System, AllocError>
-    requires { size ≤ 13 }
+    requires { size ≤ most_size }
     ensures { IfOk result (λ system. grammar_of system ≡ made_grammar size) }
 {
     let mut rules = Vec::new(alloc);
@@ -167,7 +168,7 @@ fn made_grammar(alloc: Global, size: u32) -> Result<System, AllocError>
 
 /// The tree of a word.
 fn word_tree(alloc: Global, size: u32, word: u32) -> Result<Tree, AllocError>
-    requires size { size ≤ 13 }
+    requires size { size ≤ most_size }
     requires word { word ≤ 8192 }
     ensures { IfOk result (λ tree. tree ≡ word_tree size word) }
 {
@@ -179,7 +180,7 @@ fn word_tree(alloc: Global, size: u32, word: u32) -> Result<Tree, AllocError>
 
 /// The trees of the words of the made deck of this size.
 fn word_trees(alloc: Global, size: u32) -> Result<Vec<Tree>, AllocError>
-    requires { size ≤ 13 }
+    requires { size ≤ most_size }
     ensures { IfOk result (λ trees. trees.items ≡ map (word_tree size) (words size)) }
 {
     let mut trees = Vec::new(alloc);
@@ -191,7 +192,7 @@ fn word_trees(alloc: Global, size: u32) -> Result<Vec<Tree>, AllocError>
 
 /// The graph of the made deck of this size.
 fn made_graph(alloc: Global, size: u32) -> Result<Graph, AllocError>
-    requires { size ≤ 13 }
+    requires { size ≤ most_size }
     ensures { IfOk result (λ graph. graph ≡ made_graph size) }
 {
     let trees = word_trees(alloc, size)?;
@@ -201,7 +202,7 @@ fn made_graph(alloc: Global, size: u32) -> Result<Graph, AllocError>
 /// The made deck of this size, from 0 to 13: a chain of 2^size words, and a grammar that joins two trees of one level
 /// into a tree of the next, until one tree is left. The error comes where memory was wanting.
 pub fn made(alloc: Global, size: u32) -> Result<Deck, AllocError>
-    requires { size ≤ 13 }
+    requires { size ≤ most_size }
     ensures version { IfOk result (λ deck. deck.version ≡ 1) }
     ensures names { IfOk result (λ deck. deck.names ≡ made_names size) }
     ensures systems { IfOk result (λ deck. map grammar_of deck.systems.items ≡ made_grammar size ∷ []) }

@@ -2,6 +2,7 @@
 
 ghost use Rattle.std.specs.Prelude.{◌≡◌, ◌≤◌, ◌<◌, ◌-◌, ◌^◌, ◌++◌, IfOk, OnOk, decimal, codes, flat_map};
 ghost use Rattle.std.specs.List.{range_with_len};
+ghost use Rattle.qs_deck.specs.Limits.{most_size};
 ghost use Rattle.qs_deck.specs.MadeDecks.{level_line, word_text, words_text, made_text};
 
 use crate::made_decks::word_count;
@@ -18,7 +19,7 @@ fn append_number(alloc: Global, number: u32, out: &mut Vec<u8>) -> Result<(), Al
 
 /// Appends the line of the rule that joins two trees of this level.
 fn append_level(alloc: Global, level: u32, out: &mut Vec<u8>) -> Result<(), AllocError>
-    requires { level < 13 }
+    requires { level < most_size }
     ensures { OnOk result (out.new.items ≡ out.old.items ++ level_line level) }
 {
     out.extend_from_slice(b"T")?;
@@ -33,7 +34,7 @@ fn append_level(alloc: Global, level: u32, out: &mut Vec<u8>) -> Result<(), Allo
 
 /// Appends the lines of the rules.
 fn append_levels(alloc: Global, size: u32, out: &mut Vec<u8>) -> Result<(), AllocError>
-    requires { size ≤ 13 }
+    requires { size ≤ most_size }
     ensures { OnOk result (out.new.items ≡ out.old.items ++ flat_map level_line (range_with_len 0 size)) }
 {
     for level in 0..size {
@@ -54,7 +55,7 @@ fn append_word(alloc: Global, word: u32, out: &mut Vec<u8>) -> Result<(), AllocE
 
 /// Appends the texts of the words' trees with plus signs between them.
 fn append_words(alloc: Global, size: u32, out: &mut Vec<u8>) -> Result<(), AllocError>
-    requires { size ≤ 13 }
+    requires { size ≤ most_size }
     ensures { OnOk result (out.new.items ≡ out.old.items ++ words_text size) }
 {
     append_word(alloc, 1, out)?;
@@ -67,7 +68,7 @@ fn append_words(alloc: Global, size: u32, out: &mut Vec<u8>) -> Result<(), Alloc
 
 /// The text of the made deck of this size, from 0 to 13. The error comes where memory was wanting.
 pub fn made_deck(alloc: Global, size: u32) -> Result<Vec<u8>, AllocError>
-    requires { size ≤ 13 }
+    requires { size ≤ most_size }
     ensures { IfOk result (λ text. text.items ≡ made_text size) }
 {
     let mut text = Vec::new(alloc);

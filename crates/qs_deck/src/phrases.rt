@@ -2,6 +2,7 @@
 
 ghost use Rattle.std.specs.Prelude.{◌≡◌, ◌≤◌, ℕ, List, IfOk, IfErr, IfSome, IsErr, IsCharBoundary, length, map};
 ghost use Rattle.std.specs.Str.{IsUtf8};
+ghost use Rattle.qs_io.specs.Limits.{most_text_bytes};
 ghost use Rattle.qs_lex.specs.Tokens.{AreTokensOf, AreSpansFrom};
 ghost use Rattle.qs_lex.specs.declared.refusal.Refusal.{Refusal};
 ghost use Rattle.qs_lex.specs.Refusals.{IsRefusedFor};
@@ -16,7 +17,7 @@ use crate::checking::checked;
 use crate::deck::DeckEnd;
 use crate::decks::{not_utf8, told};
 use crate::fault::FaultEnd;
-use crate::grammar_lists::written;
+use crate::grammar_lists::written_grammars;
 use crate::laws::one_phrase_text;
 use crate::lines::{border_of, read_lines};
 use crate::system::System;
@@ -59,7 +60,7 @@ fn phrases_of_tokens(
     part: &str,
     tokens: &[Token],
 ) -> Result<Phrases, FaultEnd>
-    requires short { length text.now ≤ 4194304 }
+    requires short { length text.now ≤ most_text_bytes }
     requires utf8 { IsUtf8 text.now }
     requires border { border ≡ border_of text.now }
     requires part { part.now ≡ grammar_part text.now }
@@ -71,7 +72,7 @@ fn phrases_of_tokens(
     ensures few { IfOk result (λ found. length found.names ≤ length text.now) }
     ensures end { IfErr result (IsEndOfPhrases text.now) }
 {
-    let (version, mut names, raws) = written(alloc, part, tokens)?;
+    let (version, mut names, raws) = written_grammars(alloc, part, tokens)?;
     let Some(at) = border else {
         return Err(FaultEnd::Fault {
             byte: text.len() as u32,
@@ -90,7 +91,7 @@ fn phrases_of_tokens(
 
 /// The phrase text that a text in UTF-8 means, or its first fault.
 fn phrases_of_text(alloc: Global, text: &str) -> Result<Phrases, DeckEnd>
-    requires short { length text.now ≤ 4194304 }
+    requires short { length text.now ≤ most_text_bytes }
     requires utf8 { IsUtf8 text.now }
     ensures phrases { IfOk result (λ found. IsPhraseText text.now found.version found.names
         (map grammar_of found.systems.items) found.lines) }
@@ -108,7 +109,7 @@ fn phrases_of_text(alloc: Global, text: &str) -> Result<Phrases, DeckEnd>
 
 /// The phrase text that the text means, or its first fault.
 fn phrases_of_bytes(alloc: Global, bytes: &[u8]) -> Result<Phrases, DeckEnd>
-    requires { length bytes.now ≤ 4194304 }
+    requires { length bytes.now ≤ most_text_bytes }
     ensures phrases { IfOk result (λ found. IsPhraseText bytes.now found.version found.names
         (map grammar_of found.systems.items) found.lines) }
     ensures few { IfOk result (λ found. length found.names ≤ length bytes.now) }
@@ -132,7 +133,7 @@ fn phrases_of_bytes(alloc: Global, bytes: &[u8]) -> Result<Phrases, DeckEnd>
 /// Then come the checks of grammars and rules, and at last the lines: the 65,537th word of a line is one too many.
 /// `Memory` may come for any text.
 pub fn read_phrases(alloc: Global, bytes: &[u8]) -> Result<Phrases, DeckEnd>
-    requires { length bytes.now ≤ 4194304 }
+    requires { length bytes.now ≤ most_text_bytes }
     ensures phrases { IfOk result (λ found. IsPhraseText bytes.now found.version found.names
         (map grammar_of found.systems.items) found.lines) }
     ensures few { IfOk result (λ found. length found.names ≤ length bytes.now) }

@@ -1,6 +1,7 @@
 //! Lines of words.
 
 ghost use Rattle.std.specs.Prelude.{◌≡◌, ◌<◌, ◌≤◌, length, Some, slice_get};
+ghost use Rattle.qs_deck.specs.Limits.{most_words};
 ghost use Rattle.qs_deck.specs.LinesOfWords.{parted, AreEnds};
 
 use qs_tree::Label;
@@ -48,7 +49,7 @@ impl WordLines {
         requires { index < length self.now }
         ensures line { slice_get self.now index ≡ Some result.now }
         ensures some { 0 < length result.now }
-        ensures few { length result.now ≤ 65536 }
+        ensures few { length result.now ≤ most_words }
     {
         let end = self.ends[index] as usize;
         let start = if index == 0 {

@@ -4,6 +4,7 @@ use Rattle.std.specs.Prelude.{Result, Ok, Err, IfOk}
 use Rattle.qs_tree.specs.Lists.{◌∈◌}
 use Rattle.qs_tree.proofs.Members.{in_map, from_map, from_append}
 use Rattle.qs_graph.specs.Graphs.{Arc, QGraph, IsNode, IsEntry, IsExit, ExactlyOne}
+use Rattle.qs_graph.specs.Limits.{arc_bound}
 use Rattle.qs_graph.specs.Kept.{IsKept}
 use Rattle.qs_graph.specs.Validity.{HasCycle, LeadsInside}
 use Rattle.qs_graph.specs.working.Orders.{IsOutside, IsOnly}
@@ -32,7 +33,7 @@ outside_exit G n = (
 pub exactly : (P : ℕ → Type 0) (n : ℕ) → IsOnly P (Some n) → ExactlyOne P
 exactly P n o = record { one = n; holds = o.0; only = o.1 }
 
-pub graph_kept : (G : QGraph) → 0 < length G.arcs → length G.arcs < 4294967295 → ((arc : Arc) → arc ∈ G.arcs → IsNode G arc.from × IsNode G arc.to) → (HasCycle G.arcs → ⊥)
+pub graph_kept : (G : QGraph) → 0 < length G.arcs → length G.arcs < arc_bound → ((arc : Arc) → arc ∈ G.arcs → IsNode G arc.from × IsNode G arc.to) → (HasCycle G.arcs → ⊥)
     → (entry exit : ℕ) → IsOnly (IsEntry G) (Some entry) → IsOnly (IsExit G) (Some exit) → IsKept G entry exit
 graph_kept G some few in_range acyclic entry exit e x = record {
   valid = record {

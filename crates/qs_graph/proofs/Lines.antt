@@ -7,6 +7,7 @@ use Rattle.qs_tree.proofs.Members.{in_at}
 use Rattle.qs_tree.specs.Trees.{Tree}
 use Rattle.qs_graph.specs.Graphs.{Arc, Leads, IsPath, IsNode, IsEntry, IsExit, IsValid}
 use Rattle.qs_graph.specs.Chains.{chain, line_graph}
+use Rattle.qs_graph.specs.Limits.{most_read_arcs}
 use Rattle.qs_graph.specs.Kept.{IsKept}
 
 -- each arc leads to a higher rank
@@ -127,7 +128,7 @@ module _ (a b : ℕ) (ts : List Tree) (some : 0 < length ts) (ends : a + b ≡ 3
     };
   }
 
-  pub line_kept : length ts ≤ 65536 → IsKept (line_graph a ts b) a b
+  pub line_kept : length ts ≤ most_read_arcs → IsKept (line_graph a ts b) a b
   line_kept few = record {
     valid = line_valid;
     entry_is = line_entry;

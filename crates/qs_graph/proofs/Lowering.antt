@@ -126,11 +126,6 @@ group_step arcs i arc groups from to was now more f t l read pushed h n =
         get_or-set_other (map items_of groups) from n now.items [] d ∙ h n ∙ sym (append-nil (targets_from (take i arcs) n))
         ∙ ap (λ b. targets_from (take i arcs) n ++ cond b (to ∷ []) []) (sym (ne_eqb from n (λ s. d (sym s))))
 
-member-get_or : {X : Type 0} (xs : List X) (i : ℕ) (d : X) → i < length xs → get_or xs i d ∈ xs
-member-get_or [] i d l = absurd (omega arith)
-member-get_or (x ∷ xs) zero d l = inl refl
-member-get_or (x ∷ xs) (suc i) d l = inr (member-get_or xs i d (omega arith))
-
 -- the group that was read is that of its node
 pub group_read : (groups : List (Vec ℕ Global)) (arcs : List Arc) (k : ℕ) (at : Vec ℕ Global) → k < length groups → at ≡ get_or groups k at
     → ((n : ℕ) → get_or (map items_of groups) n [] ≡ targets_from arcs n) → at.items ≡ targets_from arcs k

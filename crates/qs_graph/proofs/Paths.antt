@@ -1,5 +1,6 @@
 -- Paths: their parts and their ends, and relations that rise along arcs.
-use Rattle.std.proofs.Common.{◌≡◌, ◌⊎◌, ℕ, zero, suc, Some, slice_get, List, [], ◌∷◌, ◌++◌, refl, sym, ap, subst, inl, inr, ⊎_elim, arith, length-append}
+use Rattle.std.proofs.Common.{◌≡◌, ◌⊎◌, ◌<◌, ℕ, zero, suc, Some, slice_get, List, [], ◌∷◌, ◌++◌, length, refl, sym, ap, subst, inl, inr, ⊎_elim, arith, length-append}
+use Rattle.std.proofs.lemmas.Option.{slice_get_within}
 use Rattle.qs_tree.specs.Lists.{◌∈◌}
 use Rattle.qs_graph.specs.Graphs.{Arc, QGraph, Leads, IsPath, IsValid}
 use Rattle.qs_tree.proofs.Members.{in_at}
@@ -15,6 +16,12 @@ pub slice_get-append : {X : Type 0} (xs ys : List X) (k : ℕ) (x : X) → slice
 slice_get-append [] ys k x e = absurd cc
 slice_get-append (y ∷ xs) ys zero x e = e
 slice_get-append (y ∷ xs) ys (suc k) x e = slice_get-append xs ys k x e
+
+-- the arcs of a path are arcs of the graph
+pub leads_low : (arcs : List Arc) (a : ℕ) (ks : List ℕ) (b : ℕ) → Leads arcs a ks b → (k : ℕ) → k ∈ ks → k < length arcs
+leads_low arcs a [] b l k i = absurd i
+leads_low arcs a (m ∷ ks) b (arc, is, e, l) k (inl same) = omega (arith, slice_get_within arcs m arc is)
+leads_low arcs a (m ∷ ks) b (arc, is, e, l) k (inr i) = leads_low arcs arc.to ks b l k i
 
 -- one path behind another
 pub leads-append : (arcs : List Arc) (a : ℕ) (ks : List ℕ) (b : ℕ) (ls : List ℕ) (c : ℕ) → Leads arcs a ks b → Leads arcs b ls c → Leads arcs a (ks ++ ls) c

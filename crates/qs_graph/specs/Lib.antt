@@ -1,5 +1,6 @@
 pub mod Graphs
 pub mod Validity
 pub mod Chains
+pub mod Limits
 pub mod Kept
 pub mod working

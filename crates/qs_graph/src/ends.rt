@@ -4,6 +4,7 @@ ghost use Rattle.std.specs.Prelude.{◌≡◌, ◌≢◌, ◌↔◌, ◌<◌, �
 ghost use Rattle.std.specs.Prelude.{slice_index_or};
 ghost use Rattle.qs_tree.specs.Lists.{◌∈◌};
 ghost use Rattle.qs_graph.specs.Graphs.{IsEntry, IsExit};
+ghost use Rattle.qs_graph.specs.Limits.{arc_bound};
 ghost use Rattle.qs_graph.specs.Validity.{LeadsInside};
 ghost use Rattle.qs_graph.specs.working.Orders.{times, AreApart, IsOutside, IsOnly};
 
@@ -12,7 +13,7 @@ use std::alloc::{AllocError, Global};
 
 // The entry, if there is exactly one.
 pub fn only_entry(alloc: Global, nodes: u32, edges: &[Edge]) -> Result<Option<u32>, AllocError>
-    requires few { length edges.now < 4294967295 }
+    requires few { length edges.now < arc_bound }
     requires inside { LeadsInside (record { nodes = nodes; arcs = edges.now }) }
     ensures { IfOk result (IsOnly (IsEntry (record { nodes = nodes; arcs = edges.now }))) }
 {
@@ -22,7 +23,7 @@ pub fn only_entry(alloc: Global, nodes: u32, edges: &[Edge]) -> Result<Option<u3
 
 // The exit, if there is exactly one.
 pub fn only_exit(alloc: Global, nodes: u32, edges: &[Edge]) -> Result<Option<u32>, AllocError>
-    requires few { length edges.now < 4294967295 }
+    requires few { length edges.now < arc_bound }
     requires inside { LeadsInside (record { nodes = nodes; arcs = edges.now }) }
     ensures { IfOk result (IsOnly (IsExit (record { nodes = nodes; arcs = edges.now }))) }
 {

@@ -3,6 +3,7 @@
 ghost use Rattle.std.specs.Prelude.{◌≡◌, ◌<◌, ◌≤◌, ◌+◌, IfOk, length};
 ghost use Rattle.qs_graph.specs.Graphs.{IsValid, IsEntry, IsExit};
 ghost use Rattle.qs_graph.specs.Chains.{line_graph};
+ghost use Rattle.qs_graph.specs.Limits.{most_read_arcs, arc_bound};
 ghost use Rattle.qs_graph.specs.Kept.{IsKept};
 
 use crate::edge::Edge;
@@ -50,7 +51,7 @@ impl Graph {
     pub fn edges(&self) -> &[Edge]
         ensures value { result.now ≡ self.now.arcs }
         ensures valid { IsValid self.now }
-        ensures few { length result.now < 4294967295 }
+        ensures few { length result.now < arc_bound }
     {
         &self.edges
     }
@@ -91,7 +92,7 @@ impl Graph {
         requires from_in { 0 < from }
         requires to_in { 0 < to }
         requires some { 0 < length trees.items }
-        requires few { length trees.items ≤ 65536 }
+        requires few { length trees.items ≤ most_read_arcs }
         ensures { IfOk result (λ g. g ≡ line_graph from trees.items to) }
     {
         let len = trees.len();

@@ -3,6 +3,7 @@
 ghost use Rattle.std.specs.Prelude.{◌≡◌, ◌<◌, IfOk, IfErr, length};
 ghost use Rattle.qs_tree.specs.Lists.{◌∈◌};
 ghost use Rattle.qs_graph.specs.Graphs.{IsValid};
+ghost use Rattle.qs_graph.specs.Limits.{arc_bound};
 ghost use Rattle.qs_graph.specs.Validity.{LeadsInside, IsRefused};
 
 use crate::edge::Edge;
@@ -43,7 +44,7 @@ impl Graph {
     /// linear in the nodes and the arcs. A list that is refused is dropped.
     pub fn new(alloc: Global, nodes: u32, edges: Vec<Edge>) -> Result<Graph, GraphEnd>
         requires some { 0 < length edges.items }
-        requires few { length edges.items < 4294967295 }
+        requires few { length edges.items < arc_bound }
         requires inside { LeadsInside (record { nodes = nodes; arcs = edges.items }) }
         ensures graph { IfOk result (λ g. g ≡ record { nodes = nodes; arcs = edges.items }) }
         ensures valid { IfOk result IsValid }

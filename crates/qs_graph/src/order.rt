@@ -4,6 +4,7 @@ ghost use Rattle.std.specs.Prelude.{◌≡◌, ◌<◌, ◌≤◌, ◌+◌, ◌^
 ghost use Rattle.std.specs.Prelude.{slice_index_or};
 ghost use Rattle.qs_tree.specs.Lists.{◌∈◌};
 ghost use Rattle.qs_graph.specs.Graphs.{Arc};
+ghost use Rattle.qs_graph.specs.Limits.{arc_bound};
 ghost use Rattle.qs_graph.specs.Validity.{LeadsInside, HasCycle};
 ghost use Rattle.qs_graph.specs.working.Orders.{times, targets_from, IsLowered};
 
@@ -13,7 +14,7 @@ use std::alloc::{AllocError, Global};
 
 // Whether the nodes have an order in which every arc leads forward. That is where there is no cycle.
 pub fn has_order(alloc: Global, nodes: u32, edges: &[Edge]) -> Result<bool, AllocError>
-    requires few { length edges.now < 4294967295 }
+    requires few { length edges.now < arc_bound }
     requires inside { LeadsInside (record { nodes = nodes; arcs = edges.now }) }
     ensures yes { IfOk result (λ has. has ≡ true → HasCycle edges.now → ⊥) }
     ensures no { IfOk result (λ has. has ≡ false → HasCycle edges.now) }

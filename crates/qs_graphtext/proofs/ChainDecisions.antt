@@ -4,6 +4,7 @@ use Rattle.std.proofs.lemmas.Bool.{cases_lt}
 use Rattle.std.proofs.lemmas.Option.{slice_get-get_or}
 use Rattle.qs_tree.specs.Lists.{◌∈◌}
 use Rattle.qs_tree.proofs.Members.{in_flat_map}
+use Rattle.qs_graph.specs.Limits.{most_read_arcs}
 use Rattle.qs_graph.specs.Graphs.{IsValid, IsEntry, IsExit, ExactlyOne}
 use Rattle.qs_graph.specs.Validity.{LeadsInside, HasCycle}
 use Rattle.qs_graphtext.specs.WrittenChains.{WrittenChain}
@@ -55,9 +56,9 @@ module _ (chains : List WrittenChain) (some : 0 < length chains) (whole : (c : W
   chains_decided =
       ⊎_elim
       (λ many. inr (
-        chain_end.TooManyArcs (get_or (places_in chains) 65536 0),
+        chain_end.TooManyArcs (get_or (places_in chains) most_read_arcs 0),
         λ m. absurd cc,
-        (many, slice_get-get_or (places_in chains) 65536 0 (omega (arith, many, places_many chains whole))),
+        (many, slice_get-get_or (places_in chains) most_read_arcs 0 (omega (arith, many, places_many chains whole))),
       ))
       (λ few. make_or_end few (decide_cycle (graph_of chains).arcs) (decide_one_entry (graph_of chains)) (decide_one_exit (graph_of chains)))
-      (cases_lt 65536 (length (trees_in chains)))
+      (cases_lt most_read_arcs (length (trees_in chains)))

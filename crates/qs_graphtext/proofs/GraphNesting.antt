@@ -3,6 +3,7 @@
 use Rattle.std.proofs.Common.{◌≡◌, ℕ, suc, ◌+◌, ◌≤◌, refl, ap, inl, inr, List, [], ◌∷◌, ◌++◌, length, map, arith, codes}
 use Rattle.std.specs.Prelude.{max}
 use Rattle.std.specs.List.{flat_map}
+use Rattle.qs_lex.specs.Limits.{most_open, most_node_number}
 use Rattle.qs_lex.specs.declared.token.Token.{Token}
 use Rattle.qs_lex.specs.declared.token.Kind.TheVariants.{Comma, Stop, Node, Word as a_word}
 use Rattle.qs_lex.specs.declared.token.Word.TheVariants.{Graphe, Fin}
@@ -104,7 +105,7 @@ graph_shows (reads_graph {t} {u} {rest = rest} starts chains ends) =
 
 -- the same in plain words: where the tokens of a graph fit, as many more parentheses as its trees need may be open
 pub graph_read_fits : {names : List (List ℕ)} {text : List ℕ} {ts rest : List Token} {chains : List WrittenChain} → ReadsGraph names text ts chains rest
-    → (depth : ℕ) → depth ≤ 1000 → Fits depth ts → (trees_height (trees_in chains) + depth ≤ 1000) × Fits depth rest
+    → (depth : ℕ) → depth ≤ most_open → Fits depth ts → (trees_height (trees_in chains) + depth ≤ most_open) × Fits depth rest
 graph_read_fits reads = (graph_shows reads).fits
 
 module _ (text : List ℕ) where
@@ -126,7 +127,7 @@ module _ (text : List ℕ) where
   space_goes : (n : ℕ) (left : List ℕ) → Goes text (Opens n) (codes " ") left
   space_goes n left = turned text (codes " ") left (λ ts rest e. opens_none n e) (space text left)
 
-  mark_goes : (n number : ℕ) (left : List ℕ) → (1 ≤ number) × (number ≤ 999999999) → Goes text (Opens n) (node_mark number) left
+  mark_goes : (n number : ℕ) (left : List ℕ) → (1 ≤ number) × (number ≤ most_node_number) → Goes text (Opens n) (node_mark number) left
   mark_goes n number left fits = one_goes text n (Node number) (node_mark number) (node_mark number) left (λ m. refl) (token text (Node number) tt (node_mark number) left (fits.0, fits.1, refl) tt refl)
 
   module _ (names : List (List ℕ)) (names_line : AreOnOneLine names) where
@@ -196,5 +197,5 @@ module _ (text : List ℕ) where
 -- the same in plain words: where as many more parentheses as the trees need may be open, and what stands behind the graph fits,
 -- the graph and what stands behind it do
 pub graph_goes_fitting : (names : List (List ℕ)) (text : List ℕ) → AreOnOneLine names → (G : QGraph) → ((arc : Arc) → arc ∈ G.arcs → IsWritable (length names) arc) → (left : List ℕ)
-    → Goes text (λ ts rest. (depth : ℕ) → trees_height (map (λ arc. arc.tree) G.arcs) + depth ≤ 1000 → Fits depth rest → Fits depth ts) (graph_text names G) left
+    → Goes text (λ ts rest. (depth : ℕ) → trees_height (map (λ arc. arc.tree) G.arcs) + depth ≤ most_open → Fits depth rest → Fits depth ts) (graph_text names G) left
 graph_goes_fitting names text names_line G w left = turned text (graph_text names G) left (λ ts rest o. o.fits) (graph_opens text names names_line G w left)

@@ -1,6 +1,7 @@
 -- Graphs that are written are read as chains of their arcs, wherever they stand in a text.
 use Rattle.std.proofs.Common.{◌≡◌, ℕ, ◌<◌, ◌≤◌, refl, sym, ap, ◌∙◌, subst, inl, inr, List, [], ◌∷◌, ◌++◌, length, arith, codes}
 use Rattle.std.specs.List.{flat_map}
+use Rattle.qs_lex.specs.Limits.{most_node_number}
 use Rattle.qs_lex.specs.declared.token.Token.{Token}
 use Rattle.qs_lex.specs.declared.token.Kind.TheVariants.{Node, Word as a_word, Stop}
 use Rattle.qs_lex.specs.declared.token.Word.TheVariants.{Graphe, Fin}
@@ -18,8 +19,8 @@ use Rattle.qs_graphtext.proofs.TreesReadBack.{tree_goes}
 
 -- what is asked of an arc, so that it can be written
 pub record IsWritable (n : ℕ) (arc : Arc) : Type 0 where
-  pub from : (1 ≤ arc.from) × (arc.from ≤ 999999999)
-  pub to : (1 ≤ arc.to) × (arc.to ≤ 999999999)
+  pub from : (1 ≤ arc.from) × (arc.from ≤ most_node_number)
+  pub to : (1 ≤ arc.to) × (arc.to ≤ most_node_number)
   pub named : IsNamed n arc.tree
 
 module _ (text : List ℕ) where
@@ -28,7 +29,7 @@ module _ (text : List ℕ) where
   lined {Are} piece left goes =
       turned text (piece ++ codes "\n") left (λ ts rest x. subst (λ us. Are ts us) x.2 x.1) (both text piece (codes "\n") left goes (end_of_line text left))
 
-  mark_goes : (n : ℕ) (left : List ℕ) → (1 ≤ n) × (n ≤ 999999999) → Goes text (IsOne text (Node n) (node_mark n)) (node_mark n) left
+  mark_goes : (n : ℕ) (left : List ℕ) → (1 ≤ n) × (n ≤ most_node_number) → Goes text (IsOne text (Node n) (node_mark n)) (node_mark n) left
   mark_goes n left fits = token text (Node n) tt (node_mark n) left (fits.0, fits.1, refl) tt refl
 
 module _ (names : List (List ℕ)) (text : List ℕ) where

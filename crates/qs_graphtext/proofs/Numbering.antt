@@ -9,6 +9,7 @@ use Rattle.std.proofs.lemmas.Cmp.{nat_eq_equiv}
 use Rattle.std.proofs.lemmas.Bool.Decides.{nat_tests, same_from_decides}
 use Rattle.std.proofs.lemmas.List.Kept.{AllPairs-from_increasing, IsStrictlyIncreasing-filter}
 use Rattle.std.proofs.lemmas.Map.Made.{IsDistinct-from_AllPairs, is_member-filter, is_member-Decides, length-from_keys}
+use Rattle.std.proofs.Math.Bool.{and-true}
 use Rattle.qs_graphtext.specs.GraphOfChains.{different, dense}
 
 distinct : (nodes : List ℕ) → IsStrictlyIncreasing nodes → IsDistinct nat_eq nodes
@@ -86,10 +87,6 @@ pub dense_within : (nodes : List ℕ) (n : ℕ) → Contains nodes n → (1 ≤ 
 dense_within nodes n c =
     (some_passes (λ m. nat_le m n) nodes n c.0 (at_most n n refl) c.1 c.2, filter-le (λ m. nat_le m n) nodes)
 
-and_true : (b : Bool) → (b && true) ≡ b
-and_true true = refl
-and_true false = refl
-
 -- of the written numbers, those that pass a test have no more that differ
 fewer_different : (p : ℕ → Bool) (xs : List ℕ) → different (filter p xs) ≤ different xs
 fewer_different p [] = omega arith
@@ -114,7 +111,7 @@ fewer_different p (x ∷ xs) = by (p x) refl (fewer_different p xs)
     by false e h = others (is_member nat_eq xs x) (filter p xs) xs h
     by true e h =
         let known : is_member nat_eq (filter p xs) x ≡ is_member nat_eq xs x =
-        is_member-filter nat_eq_equiv p x (λ y d. same x y d) xs ∙ ap (λ b. is_member nat_eq xs x && b) e ∙ and_true (is_member nat_eq xs x)
+        is_member-filter nat_eq_equiv p x (λ y d. same x y d) xs ∙ ap (λ b. is_member nat_eq xs x && b) e ∙ and-true (is_member nat_eq xs x)
         in
         subst (λ b. many b (filter p xs) ≤ different (x ∷ xs)) (sym known) (one_more (is_member nat_eq xs x) (filter p xs) xs h)
 

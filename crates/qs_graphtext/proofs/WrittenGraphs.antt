@@ -1,5 +1,6 @@
 -- A valid graph that is written is read as chains that make it, between other things and alone.
 use Rattle.std.proofs.Common.{ℕ, ◌+◌, ◌≤◌, List, [], ◌++◌, length, arith}
+use Rattle.qs_lex.specs.Limits.{most_node_number}
 use Rattle.qs_lex.specs.declared.token.Token.{Token}
 use Rattle.qs_lex.specs.Tokens.{Reads, AreTokensOf}
 use Rattle.qs_tree.specs.Lists.{◌∈◌}
@@ -11,7 +12,7 @@ use Rattle.qs_graphtext.specs.ChainsOfArcs.{ReadsBack}
 use Rattle.qs_graphtext.proofs.GraphsReadBack.{IsWritable, AreGraph, graph_goes}
 use Rattle.qs_graphtext.proofs.SameGraph.{same_graph}
 
-module _ (names : List (List ℕ)) (G : QGraph) (line : AreOnOneLine names) (valid : IsValid G) (few : G.nodes ≤ 999999999) (named : AreArcsNamed (length names) G.arcs) where
+module _ (names : List (List ℕ)) (G : QGraph) (line : AreOnOneLine names) (valid : IsValid G) (few : G.nodes ≤ most_node_number) (named : AreArcsNamed (length names) G.arcs) where
   writable : (arc : Arc) → arc ∈ G.arcs → IsWritable (length names) arc
   writable arc i =
       let ends = valid.in_range arc i in

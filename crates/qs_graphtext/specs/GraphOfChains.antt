@@ -4,6 +4,7 @@ use Rattle.std.specs.Prelude.{ℕ, ◌≡◌, ◌≤◌, ◌<◌, List, [], ◌�
 use Rattle.std.specs.List.{filter}
 use Rattle.std.specs.Set.{distinct_count}
 use Rattle.qs_tree.specs.Trees.{Tree}
+use Rattle.qs_graph.specs.Limits.{most_read_arcs}
 use Rattle.qs_graph.specs.Graphs.{QGraph}
 use Rattle.qs_graph.specs.Chains.{with_chain}
 use Rattle.qs_graph.specs.declared.making.GraphEnd.TheVariants as graph_end
@@ -50,13 +51,13 @@ graph_of chains =
 
 -- The chains have at most 65,536 trees, each of which makes an arc.
 abbrev pub AreFew : List WrittenChain → Type 0
-AreFew chains = length (trees_in chains) ≤ 65536
+AreFew chains = length (trees_in chains) ≤ most_read_arcs
 
 -- Why chains make no valid graph: there are more than 65,536 trees, and the 65,537th begins at the byte `at`; or what
 -- they make has a cycle; else not exactly one entry; else not exactly one exit. Want of memory says nothing of them.
 abbrev pub AreRefused : List WrittenChain → ChainEnd → Type 0
 AreRefused chains (chain_end.TooManyArcs at) =
-    (65536 < length (trees_in chains)) × (slice_get (places_in chains) 65536 ≡ Some at)
+    (most_read_arcs < length (trees_in chains)) × (slice_get (places_in chains) most_read_arcs ≡ Some at)
 AreRefused chains chain_end.Cycle = AreFew chains × IsRefused (graph_of chains) graph_end.Cycle
 AreRefused chains chain_end.Entries = AreFew chains × IsRefused (graph_of chains) graph_end.Entries
 AreRefused chains chain_end.Exits = AreFew chains × IsRefused (graph_of chains) graph_end.Exits

@@ -2,6 +2,7 @@
 
 ghost use Rattle.std.specs.Prelude.{◌≡◌, ◌⊎◌, ℕ, ◌+◌, ◌<◌, ◌≤◌, List, [], ◌++◌, length, map};
 ghost use Rattle.qs_lex.specs.declared.token.Token.{Token};
+ghost use Rattle.qs_lex.specs.Limits.{most_node_number};
 ghost use Rattle.qs_lex.specs.Tokens.{Reads, AreTokensOf};
 ghost use Rattle.qs_tree.specs.Lists.{◌∈◌};
 ghost use Rattle.qs_tree.specs.Trees.{Tree};
@@ -39,11 +40,11 @@ pub fn names_stay()
 /// most 999,999,999 nodes, so that each has a mark.
 pub fn what_is_written_is_read()
     ensures within { (names : List (List ℕ)) (before behind : List ℕ) (G : QGraph) (rest : List Token) (next : ℕ)
-        → AreOnOneLine names → IsValid G → G.nodes ≤ 999999999 → AreArcsNamed (length names) G.arcs
+        → AreOnOneLine names → IsValid G → G.nodes ≤ most_node_number → AreArcsNamed (length names) G.arcs
         → Reads (before ++ (graph_text names G ++ behind)) (length before + length (graph_text names G)) rest next
         → (ts : List Token) × Reads (before ++ (graph_text names G ++ behind)) (length before) ts next
         × ReadsBack names (before ++ (graph_text names G ++ behind)) ts G rest }
     ensures alone { (names : List (List ℕ)) (G : QGraph) → AreOnOneLine names
-        → IsValid G → G.nodes ≤ 999999999 → AreArcsNamed (length names) G.arcs
+        → IsValid G → G.nodes ≤ most_node_number → AreArcsNamed (length names) G.arcs
         → (ts : List Token) × AreTokensOf (graph_text names G) ts × ReadsBack names (graph_text names G) ts G [] }
 {}

@@ -4,6 +4,7 @@ ghost use Rattle.std.specs.Prelude.{◌≡◌, ◌≤◌, ◌<◌, ◌+◌, [], 
 ghost use Rattle.std.specs.List.{filter};
 ghost use Rattle.std.specs.List.Sorted.{IsStrictlyIncreasing};
 ghost use Rattle.qs_tree.specs.Lists.{◌∈◌};
+ghost use Rattle.qs_graph.specs.Limits.{arc_bound};
 ghost use Rattle.qs_graph.specs.Chains.{with_chain};
 ghost use Rattle.qs_graphtext.specs.WrittenChains.{WrittenChain};
 ghost use Rattle.qs_graphtext.specs.GraphOfChains.{IsWhole, trees_in, with_chains};
@@ -25,7 +26,7 @@ pub struct Laid {
 pub fn lay(alloc: Global, nodes: &[u32], chains: Vec<Chain>) -> Result<Laid, AllocError>
     requires rises { IsStrictlyIncreasing nodes.now }
     requires whole { (chain : WrittenChain) → chain ∈ chains.items → IsWhole chain }
-    requires few { length nodes.now + length (trees_in chains.items) < 4294967295 }
+    requires few { length nodes.now + length (trees_in chains.items) < arc_bound }
     ensures { IfOk result (λ l. record { nodes = l.nodes; arcs = l.edges.items }
         ≡ with_chains (λ n. length (filter (λ m. nat_le m n) nodes.now))
         (record { nodes = length nodes.now; arcs = [] })
@@ -47,7 +48,7 @@ impl Laid {
     // Adds a chain of the trees, through new nodes.
     fn add(&mut self, alloc: Global, from: u32, to: u32, trees: Vec<Tree>) -> Result<(), AllocError>
         requires some { 0 < length trees.items }
-        requires few { self.old.nodes + length trees.items < 4294967295 }
+        requires few { self.old.nodes + length trees.items < arc_bound }
         ensures { OnOk result (record { nodes = self.new.nodes; arcs = self.new.edges.items }
             ≡ with_chain (record { nodes = self.old.nodes; arcs = self.old.edges.items }) from trees.items to) }
     {

@@ -23,4 +23,4 @@ pub use chain_end::ChainEnd;
 pub use making::graph_of;
 pub use reading::read_chains;
 pub use std::alloc::AllocError as Memory;
-pub use writing::write_graph;
+pub use writing::{write_arc, write_graph};

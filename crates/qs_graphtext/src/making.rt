@@ -3,6 +3,7 @@
 ghost use Rattle.std.specs.Prelude.{◌≡◌, ◌≤◌, ◌<◌, Some, IfOk, IfErr, IfSome, IfNone, length, slice_get};
 ghost use Rattle.qs_tree.specs.Lists.{◌∈◌};
 ghost use Rattle.qs_graph.specs.Graphs.{IsValid};
+ghost use Rattle.qs_graph.specs.Limits.{most_read_arcs};
 ghost use Rattle.qs_graphtext.specs.WrittenChains.{WrittenChain};
 ghost use Rattle.qs_graphtext.specs.GraphOfChains.{IsWhole, trees_in, places_in, graph_of, AreFew, AreRefused};
 
@@ -41,8 +42,8 @@ pub fn graph_of(alloc: Global, chains: Vec<Chain>) -> Result<Graph, ChainEnd>
 // The place of the first tree of the chains that is too many, if there is one.
 fn first_too_many(chains: &[Chain]) -> Option<u32>
     requires { (chain : WrittenChain) → chain ∈ chains.now → IsWhole chain }
-    ensures some { IfSome result (λ at. (65536 < length (trees_in chains.now))
-        × (slice_get (places_in chains.now) 65536 ≡ Some at)) }
+    ensures some { IfSome result (λ at. (most_read_arcs < length (trees_in chains.now))
+        × (slice_get (places_in chains.now) most_read_arcs ≡ Some at)) }
     ensures none { IfNone result (AreFew chains.now) }
 {
     let mut room = MOST_ARCS;

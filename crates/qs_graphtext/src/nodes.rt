@@ -1,6 +1,6 @@
 //! The nodes that have written numbers.
 
-ghost use Rattle.std.specs.Prelude.{◌≡◌, ◌↔◌, ◌<◌, ◌≤◌, ℕ, IfOk, Contains, length, nat_le};
+ghost use Rattle.std.specs.Prelude.{◌≡◌, ◌↔◌, ◌<◌, ◌≤◌, ◌^◌, ℕ, IfOk, Contains, length, nat_le};
 ghost use Rattle.std.specs.List.{filter};
 ghost use Rattle.std.specs.List.Sorted.{IsStrictlyIncreasing};
 ghost use Rattle.qs_graphtext.specs.GraphOfChains.{numbers_in};
@@ -35,7 +35,7 @@ fn numbers_in(alloc: Global, chains: &[Chain]) -> Result<Vec<u32>, AllocError>
 // The new number of a node: how many of the ascending numbers are at most its own.
 pub fn dense(nodes: &[u32], written: u32) -> u32
     requires rises { IsStrictlyIncreasing nodes.now }
-    requires few { length nodes.now < 4294967296 }
+    requires few { length nodes.now < 2 ^ 32 }
     ensures { result ≡ length (filter (λ m. nat_le m written) nodes.now) }
 {
     let is_at_most = |node: &u32| -> bool

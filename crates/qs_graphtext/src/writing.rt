@@ -1,4 +1,4 @@
-//! Writing graphs.
+//! Writing graphs and their arcs.
 
 ghost use Rattle.std.specs.Prelude.{◌≡◌, ◌++◌, OnOk, OnErr, length, take, decimal, flat_map};
 ghost use Rattle.qs_tree.specs.Text.{IsNamed};
@@ -22,6 +22,26 @@ pub fn write_graph(
 {
     let before = out.len();
     let written = append_graph(alloc, names, graph, out);
+    if written.is_err() {
+        out.truncate(before);
+    }
+    written
+}
+
+/// Appends the arc as it is written in a graph: a line `-from- tree -to-.` with a line feed. The labels of its tree are
+/// those of `names`. After `Memory`, `out` is as before.
+pub fn write_arc(
+    alloc: Global,
+    names: &Names,
+    arc: &Edge,
+    out: &mut Vec<u8>,
+) -> Result<(), AllocError>
+    requires { IsNamed (length names.now) arc.now.tree }
+    ensures ok { OnOk result (out.new.items ≡ out.old.items ++ arc_line names.now arc.now) }
+    ensures err { OnErr result (out.new.items ≡ out.old.items) }
+{
+    let before = out.len();
+    let written = append_arc(alloc, names, arc, out);
     if written.is_err() {
         out.truncate(before);
     }

@@ -3,6 +3,7 @@ use Rattle.std.proofs.Common.{◌≡◌, ℕ, ◌+◌, ◌<◌, Bool, true, fals
 use Rattle.std.specs.Prelude.{take_while, slice_index}
 use Rattle.std.specs.List.{prefix_len}
 use Rattle.std.specs.Char.{is_ascii_digit}
+use Rattle.qs_lex.specs.Limits.{most_node_number}
 use Rattle.qs_lex.specs.Characters.{is_label, is_variable_letter}
 use Rattle.qs_lex.specs.working.Characters.{is_capital_or_digit}
 use Rattle.qs_lex.specs.Refusals.{cause_at}
@@ -43,7 +44,7 @@ blames_node len None = refl
 blames_node len (Some n) = tt
 
 blames_named : (name : List ℕ) (o : Option Word) → Blames BadWord (named name o)
-blames_named name None = blames_node (length name + 2) (number_after 999999999 0 name)
+blames_named name None = blames_node (length name + 2) (number_after most_node_number 0 name)
 blames_named name (Some w) = tt
 
 blames_punctuation : (b : ℕ) → Blames BadCharacter (punctuation b)

@@ -1,16 +1,17 @@
 -- A grammar that is read with one token of sight, whose parts begin with other parts only down to a first one, decides all
 -- tokens: they are a form, or a reader that expects the form stops.
-use Rattle.std.proofs.Common.{◌≡◌, ℕ, zero, suc, ◌<◌, ◌≤◌, ◌==◌, Bool, true, false, ◌||◌, cond, refl, sym, ◌∙◌, ap, ⊎_elim, inl, inr, List, [], ◌∷◌, length, arith, eqb-true}
+use Rattle.std.proofs.Common.{◌≡◌, ℕ, zero, suc, ◌<◌, ◌≤◌, Bool, true, false, ◌||◌, cond, refl, sym, ◌∙◌, ap, ⊎_elim, inl, inr, List, [], ◌∷◌, length, arith}
 use Rattle.std.specs.Prelude.{◌⊎◌}
 use Rattle.std.proofs.lemmas.Bool.{false≢true}
 use Rattle.qs_lex.specs.declared.token.Token.{Token}
-use Rattle.qs_lex.specs.Grammar.{Sort, a_label, a_label_variable, a_tree_variable, a_forest_variable, a_node_mark, the_word, opening, closing, comma, plus, slash, equals, stop, sort_of, IsOf, Form, one, part, ◌·◌, ◌∣◌, optional, repeated, Grammar, IsWhole, whole_token, whole_part, whole_sequence, whole_this, whole_other, left_out, not_left_out, no_more, one_more}
-use Rattle.qs_lex.specs.Expecting.{number_of, same_sort, NextIsNo}
+use Rattle.qs_lex.specs.Grammar.{Sort, sort_of, IsOf, Form, one, part, ◌·◌, ◌∣◌, optional, repeated, Grammar, IsWhole, whole_token, whole_part, whole_sequence, whole_this, whole_other, left_out, not_left_out, no_more, one_more}
+use Rattle.qs_lex.specs.Expecting.{same_sort, NextIsNo}
 use Rattle.qs_lex.specs.working.Expecting.{nullable, first, starts, may_end, IsPredictive, Leads, Stops}
 use Rattle.qs_lex.proofs.Expected.{Fronts}
 use Rattle.qs_lex.proofs.Going.{leads_on, leads_token, leads_part, leads_sequence, leads_this, leads_other, leads_without, leads_done, stops_here, stops_behind}
 use Rattle.qs_lex.proofs.Sorts.{same_is}
 use Rattle.qs_lex.proofs.Predictive.{IsPredicted, next_apart, next_neither, Refused, refused_first, refused_last, refused_this, refused_other, refused_member, refused_again, refused_part, leads_into, leads_round}
+use Rattle.qs_lex.proofs.Stopping.{nothing_next}
 
 -- a whole form leaves no more tokens than there were
 whole_shorter : {Part : Type 0} {line : Grammar Part} {f : Form Part} {ts rest : List Token} → IsWhole line f ts rest → length rest ≤ length ts
@@ -196,11 +197,7 @@ module _ {Part : Type 0} {line : Grammar Part} (table more : Part → Sort → B
     pub whole_or_stops : (f : Form Part) → IsPredictive table more f → (ts : List Token) → IsWhole line f ts [] ⊎ ((left : ℕ) × Stops line (f ∷ []) ts left)
     whole_or_stops f good ts = ⊎_elim (λ p. ended p.0 p.1) (λ s. inr (s.0, s.1 [] (λ k e. absurd (false≢true e)))) (decided (suc (length ts)) f good ts (omega arith))
       where
-        no_sort : (us : List Token) → NextIsNo (λ k. false) us
-        no_sort [] = tt
-        no_sort (u ∷ us) = refl
-
         ended : (rest : List Token) → IsPassed f ts rest → IsWhole line f ts [] ⊎ ((left : ℕ) × Stops line (f ∷ []) ts left)
         ended [] p = inl p.whole
         ended (t ∷ rest) p =
-            inr (length (t ∷ rest), stops_behind (p.leads [] (λ k e. absurd (false≢true e))) (stops_here [] (t ∷ rest) ok.table_is (λ e. absurd cc) (no_sort (t ∷ rest))))
+            inr (length (t ∷ rest), stops_behind (p.leads [] (λ k e. absurd (false≢true e))) (stops_here [] (t ∷ rest) ok.table_is (λ e. absurd cc) (nothing_next (λ k. false) (t ∷ rest) (λ k. refl))))

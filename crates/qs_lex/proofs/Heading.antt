@@ -1,8 +1,7 @@
 -- What a text of version 2 begins with.
-use Rattle.std.proofs.Common.{◌≡◌, ℕ, ◌+◌, ◌-◌, ◌≤◌, Bool, true, false, cond, List, [], ◌∷◌, length, take, drop, refl, sym, ap, ◌∙◌, subst, arith, eqb, length-take, length-drop}
+use Rattle.std.proofs.Common.{◌≡◌, ℕ, ◌+◌, ◌-◌, ◌≤◌, Bool, true, false, cond, List, ◌∷◌, length, take, drop, refl, sym, ap, ◌∙◌, subst, arith, eqb, length-take, length-drop}
 use Rattle.std.specs.List.{starts_with}
 use Rattle.std.specs.Cmp.Lexicographic.{same_text}
-use Rattle.std.proofs.lemmas.Bool.{false≢true}
 use Rattle.qs_lex.specs.Spelling.{name_of, between_dashes, IsInVersion}
 use Rattle.qs_lex.specs.Tokens.{blank_len, version_of, StandsIn, AreTokensOf}
 use Rattle.qs_lex.specs.declared.token.Token.{Token}

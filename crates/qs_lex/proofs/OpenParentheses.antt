@@ -3,6 +3,7 @@ use Rattle.std.proofs.Common.{◌≡◌, ◌⊎◌, ℕ, zero, suc, ◌+◌, ◌
 use Rattle.std.proofs.lemmas.Bool.{cases_lt}
 use Rattle.std.proofs.lemmas.List.Sums.{fold_more}
 use Rattle.std.proofs.lemmas.Option.{slice_get-get_or, slice_get_within}
+use Rattle.qs_lex.specs.Limits.{most_open}
 use Rattle.qs_lex.specs.Nesting.{open_behind, open_count, IsTooDeep}
 use Rattle.qs_lex.specs.declared.token.Token.{Token}
 use Rattle.qs_lex.specs.declared.token.Kind.{Kind}
@@ -26,13 +27,13 @@ open_behind_other n Stop a b = refl
 pub open_count_more : (ts : List Token) (i n : ℕ) (d : Token) → i < length ts → n ≡ open_count (take i ts) → open_count (take (i + 1) ts) ≡ open_behind n (get_or ts i d).kind
 open_count_more ts i n d within e = fold_more (λ m t. open_behind m t.kind) 0 ts i d within ∙ ap (λ m. open_behind m (get_or ts i d).kind) (sym e)
 
-pub too_deep_at : (ts : List Token) (i n : ℕ) (d : Token) → i < length ts → n ≡ open_count (take i ts) → (get_or ts i d).kind ≡ Opening → 1000 < n + 1 → IsTooDeep ts i
+pub too_deep_at : (ts : List Token) (i n : ℕ) (d : Token) → i < length ts → n ≡ open_count (take i ts) → (get_or ts i d).kind ≡ Opening → most_open < n + 1 → IsTooDeep ts i
 too_deep_at ts i n d within e opens deep =
     let count : open_count (take (i + 1) ts) ≡ n + 1 = open_count_more ts i n d within e ∙ ap (open_behind n) opens in
     record { token = get_or ts i d; there = slice_get-get_or ts i d within; opening = opens; deep = omega arith }
 
 -- a place where few are open isn't too deep, and one past the end isn't
-pub shallow : (ts : List Token) (i m : ℕ) → open_count (take (i + 1) ts) ≡ m → m ≤ 1000 → IsTooDeep ts i → ⊥
+pub shallow : (ts : List Token) (i m : ℕ) → open_count (take (i + 1) ts) ≡ m → m ≤ most_open → IsTooDeep ts i → ⊥
 shallow ts i m e few t = let deep = t.deep in omega arith
 
 pub past_end : (ts : List Token) (i : ℕ) → length ts ≤ i → IsTooDeep ts i → ⊥
@@ -59,14 +60,14 @@ is_too_deep ts i = by (slice_get ts i) refl
     same : {t u : Token} → slice_get ts i ≡ Some t → slice_get ts i ≡ Some u → t ≡ u
     same e f = cc
 
-    opened : (t : Token) → slice_get ts i ≡ Some t → Dec (t.kind ≡ Opening) → (1000 < open_count (take (i + 1) ts)) ⊎ (open_count (take (i + 1) ts) ≤ 1000) → Dec (IsTooDeep ts i)
+    opened : (t : Token) → slice_get ts i ≡ Some t → Dec (t.kind ≡ Opening) → (most_open < open_count (take (i + 1) ts)) ⊎ (open_count (take (i + 1) ts) ≤ most_open) → Dec (IsTooDeep ts i)
     opened t e (no n) deep = no (λ d. n (ap (λ (u : Token). u.kind) (same e d.there) ∙ d.opening))
     opened t e (yes o) (inl deep) = yes (record { token = t; there = e; opening = o; deep = deep })
     opened t e (yes o) (inr few) = no (shallow ts i (open_count (take (i + 1) ts)) refl few)
 
     by : (o : Option Token) → slice_get ts i ≡ o → Dec (IsTooDeep ts i)
     by None e = no (λ d. absurd (let other : None ≡ Some d.token = sym e ∙ d.there in cc))
-    by (Some t) e = opened t e (is_opening t.kind) (cases_lt 1000 (open_count (take (i + 1) ts)))
+    by (Some t) e = opened t e (is_opening t.kind) (cases_lt most_open (open_count (take (i + 1) ts)))
 
 -- none is too deep, or there is a first one
 abbrev FirstDeepBelow : List Token → ℕ → Type 0

@@ -1,6 +1,6 @@
 -- Whether a grammar is read with one token of sight, decided sort by sort.
 use Rattle.std.proofs.Common.{◌≡◌, Bool, true, false, ◌||◌, ◌&&◌, not, refl, sym}
-use Rattle.std.proofs.lemmas.Bool.{false≢true}
+use Rattle.std.proofs.lemmas.Bool.{false≢true, not-true}
 use Rattle.qs_lex.specs.Grammar.{Sort, Form, one, part, ◌·◌, ◌∣◌, optional, repeated, Grammar}
 use Rattle.qs_lex.specs.working.Expecting.{nullable, first, goes_on, Apart, IsPredictive}
 use Rattle.qs_lex.proofs.Predictive.{IsPredicted}
@@ -28,12 +28,8 @@ implies_is p q e k f = implied (p k) (q k) (every_is (λ k. not (p k) || q k) e 
 abbrev apart : (Sort → Bool) → (Sort → Bool) → Bool
 apart p q = every (λ k. not (p k) || not (q k))
 
-not_is : (a : Bool) → not a ≡ true → a ≡ false
-not_is true e = sym e
-not_is false e = refl
-
 pub apart_is : (p q : Sort → Bool) → apart p q ≡ true → Apart p q
-apart_is p q e k f = not_is (q k) (implied (p k) (not (q k)) (every_is (λ k. not (p k) || not (q k)) e k) f)
+apart_is p q e k f = not-true (q k) (implied (p k) (not (q k)) (every_is (λ k. not (p k) || not (q k)) e k) f)
 
 abbrev is_predictive : {Part : Type 0} → (Part → Sort → Bool) → (Part → Sort → Bool) → Form Part → Bool
 is_predictive table more (one s) = true
@@ -59,20 +55,20 @@ predictive_is table more (f ∣ g) e =
     let c = and_second (not (nullable g)) (apart (first table f) (first table g) && (apart (first table g) (first table f) && both)) b in
     let d = and_second (apart (first table f) (first table g)) (apart (first table g) (first table f) && both) c in
     let h = and_second (apart (first table g) (first table f)) both d in (
-      not_is (nullable f) (and_first (not (nullable f)) (not (nullable g) && (apart (first table f) (first table g) && (apart (first table g) (first table f) && both))) e),
-      not_is (nullable g) (and_first (not (nullable g)) (apart (first table f) (first table g) && (apart (first table g) (first table f) && both)) b),
+      not-true (nullable f) (and_first (not (nullable f)) (not (nullable g) && (apart (first table f) (first table g) && (apart (first table g) (first table f) && both))) e),
+      not-true (nullable g) (and_first (not (nullable g)) (apart (first table f) (first table g) && (apart (first table g) (first table f) && both)) b),
       apart_is (first table f) (first table g) (and_first (apart (first table f) (first table g)) (apart (first table g) (first table f) && both) c),
       apart_is (first table g) (first table f) (and_first (apart (first table g) (first table f)) both d),
       predictive_is table more f (and_first (is_predictive table more f) (is_predictive table more g) h),
       predictive_is table more g (and_second (is_predictive table more f) (is_predictive table more g) h),
     )
 predictive_is table more (optional f) e = (
-  not_is (nullable f) (and_first (not (nullable f)) (is_predictive table more f) e),
+  not-true (nullable f) (and_first (not (nullable f)) (is_predictive table more f) e),
   predictive_is table more f (and_second (not (nullable f)) (is_predictive table more f) e),
 )
 predictive_is table more (repeated f) e =
     let b = and_second (not (nullable f)) (is_predictive table more f && apart (first table f) (goes_on table more f)) e in (
-      not_is (nullable f) (and_first (not (nullable f)) (is_predictive table more f && apart (first table f) (goes_on table more f)) e),
+      not-true (nullable f) (and_first (not (nullable f)) (is_predictive table more f && apart (first table f) (goes_on table more f)) e),
       predictive_is table more f (and_first (is_predictive table more f) (apart (first table f) (goes_on table more f)) b),
       apart_is (first table f) (goes_on table more f) (and_second (is_predictive table more f) (apart (first table f) (goes_on table more f)) b),
     )
@@ -95,7 +91,7 @@ module _ {Part : Type 0} (line : Grammar Part) (table more : Part → Sort → B
       (and_first (implies (first table (line p)) (table p)) (not (nullable (line p)) && (implies (goes_on table more (line p)) (more p) && is_predictive table more (line p))) good)
 
   good_some : nullable (line p) ≡ false
-  good_some = not_is (nullable (line p)) (and_first (not (nullable (line p))) (implies (goes_on table more (line p)) (more p) && is_predictive table more (line p)) behind_first)
+  good_some = not-true (nullable (line p)) (and_first (not (nullable (line p))) (implies (goes_on table more (line p)) (more p) && is_predictive table more (line p)) behind_first)
 
   good_goes : (k : Sort) → goes_on table more (line p) k ≡ true → more p k ≡ true
   good_goes = implies_is (goes_on table more (line p)) (more p) (and_first (implies (goes_on table more (line p)) (more p)) (is_predictive table more (line p)) behind_empty)

@@ -15,7 +15,7 @@ pub record IsPredicted {Part : Type 0} (line : Grammar Part) (table more : Part 
   pub goes : (p : Part) (k : Sort) → goes_on table more (line p) k ≡ true → more p k ≡ true
   pub predictive : (p : Part) → IsPredictive table more (line p)
 
-or_false_left : (a b : Bool) → (a || b) ≡ false → a ≡ false
+pub or_false_left : (a b : Bool) → (a || b) ≡ false → a ≡ false
 or_false_left true b e = e
 or_false_left false b e = refl
 
@@ -27,7 +27,7 @@ or_false : (a b : Bool) → a ≡ false → b ≡ false → (a || b) ≡ false
 or_false true b e f = e
 or_false false b e f = f
 
-not_true : (a : Bool) → (a ≡ true → ⊥) → a ≡ false
+pub not_true : (a : Bool) → (a ≡ true → ⊥) → a ≡ false
 not_true true n = absurd (n refl)
 not_true false n = refl
 

@@ -116,7 +116,7 @@ pub quote_is : (bytes : List ℕ) (n : ℕ) → quote_len bytes ≡ Some n → I
 quote_is bytes n e = (both_read bytes).0 n e
 
 -- the first character of a text goes by the front of its doubling
-undouble_step : (x y : ℕ) (a b d e : List ℕ) (q r : Bool) → eqb x 34 ≡ q → eqb y 34 ≡ r → (d ≡ e → a ≡ b)
+pub undouble_step : (x y : ℕ) (a b d e : List ℕ) (q r : Bool) → eqb x 34 ≡ q → eqb y 34 ≡ r → (d ≡ e → a ≡ b)
     → (cond q (34 ∷ 34 ∷ []) (x ∷ [])) ++ d ≡ (cond r (34 ∷ 34 ∷ []) (y ∷ [])) ++ e → x ∷ a ≡ y ∷ b
 undouble_step x y a b d e true true q r rest same =
     let tails : d ≡ e = (let f : 34 ∷ 34 ∷ d ≡ 34 ∷ 34 ∷ e = same in cc) in

@@ -52,11 +52,12 @@ last_behind (p ∷ ps) (x ∷ c) t u us e =
     let r = last_behind ps c t u us tail in
     (r.0, ap (λ y. y ∷ ps) head ∙ ap (λ ys. x ∷ ys) r.1)
 
-module _ {Part : Type 0} {line : Grammar Part} (table more : Part → Sort → Bool) (ok : IsPredicted line table more) where
-  nothing_next : (p : Sort → Bool) (ts : List Token) → ((k : Sort) → p k ≡ false) → NextIsNo p ts
-  nothing_next p [] n = tt
-  nothing_next p (t ∷ ts) n = n _
+-- where no sort is of a class, the next token isn't
+pub nothing_next : (p : Sort → Bool) (ts : List Token) → ((k : Sort) → p k ≡ false) → NextIsNo p ts
+nothing_next p [] n = tt
+nothing_next p (t ∷ ts) n = n _
 
+module _ {Part : Type 0} {line : Grammar Part} (table more : Part → Sort → Bool) (ok : IsPredicted line table more) where
   module _ (f : Form Part) (good : IsPredictive table more f) (closed : (k : Sort) → goes_on table more f k ≡ false) where
     -- what begins such a form and has it in front has nothing behind it
     pub closed_whole : (ps m : List Token) → Begins line f ps → IsWhole line f ps m → m ≡ []

@@ -1,5 +1,5 @@
 -- The versions of texts.
-use Rattle.std.proofs.Common.{ℕ, ◌≤◌, Bool, true, false, cond, List, length, drop, arith, eqb}
+use Rattle.std.proofs.Common.{ℕ, ◌≤◌, Bool, true, false, cond, List, drop, arith, eqb}
 use Rattle.std.specs.List.{starts_with}
 use Rattle.qs_lex.specs.Spelling.{since, name_of, between_dashes, IsInVersion}
 use Rattle.qs_lex.specs.Tokens.{version_of, blank_len}

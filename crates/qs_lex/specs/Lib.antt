@@ -4,6 +4,7 @@
 -- one up to U+007F is a single byte, its own number, and each byte of any other is 128 or more
 -- (`laws::bytes_of_characters`).
 pub mod Characters
+pub mod Limits
 pub mod Spelling
 pub mod Places
 pub mod Tokens

@@ -1,5 +1,6 @@
 -- How many parentheses are open.
 use Rattle.std.specs.Prelude.{◌≡◌, ℕ, ◌+◌, ◌-◌, ◌<◌, List, take, fold, slice_get, Some}
+use Rattle.qs_lex.specs.Limits.{most_open}
 use Rattle.qs_lex.specs.declared.token.Token.{Token}
 use Rattle.qs_lex.specs.declared.token.Kind.{Kind}
 use Rattle.qs_lex.specs.declared.token.Kind.TheVariants.{Opening, Closing}
@@ -15,9 +16,9 @@ open_behind n _ = n
 abbrev pub open_count : List Token → ℕ
 open_count ts = fold (λ n t. open_behind n t.kind) 0 ts
 
--- the token at this index is an opening parenthesis behind which more than 1,000 are open
+-- the token at this index is an opening parenthesis behind which more than `most_open` are open
 pub record IsTooDeep (ts : List Token) (index : ℕ) : Type 0 where
   pub token : Token
   pub there : slice_get ts index ≡ Some token
   pub opening : token.kind ≡ Opening
-  pub deep : 1000 < open_count (take (index + 1) ts)
+  pub deep : most_open < open_count (take (index + 1) ts)

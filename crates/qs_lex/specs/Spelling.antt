@@ -4,6 +4,7 @@ use Rattle.std.specs.Prelude.{◌≡◌, ℕ, zero, suc, ◌<◌, ◌≤◌, ◌
 use Rattle.std.specs.Prelude.{if◌then◌else◌, codes, decimal, not, true}
 use Rattle.std.specs.Char.{is_ascii_digit}
 use Rattle.qs_lex.specs.Characters.{quote, star, dash, is_label, is_variable_letter, ends_line, BeginsWithNo, Each}
+use Rattle.qs_lex.specs.Limits.{most_variable_number, most_node_number}
 use Rattle.qs_lex.specs.declared.token.Word.{Word}
 use Rattle.qs_lex.specs.declared.token.Word.TheVariants.{Systeme, Graphe, Fin, Dans, Hors, Et, Ou, Non, Version, Egal}
 use Rattle.qs_lex.specs.declared.token.Word.TheVariants.{Unique}
@@ -54,8 +55,8 @@ abbrev pub Spells : Kind → List ℕ → Type 0
 Spells Bare bytes = (0 < length bytes) × Each is_label bytes
 Spells Quoted bytes = (text : List ℕ) × Each (λ b. not (ends_line b)) text × (bytes ≡ between_quotes text)
 Spells (Variable letter number) bytes =
-    (is_variable_letter letter ≡ true) × (number ≤ 99) × (bytes ≡ letter ∷ star ∷ suffix_of number)
-Spells (Node number) bytes = (1 ≤ number) × (number ≤ 999999999) × (bytes ≡ between_dashes (decimal number))
+    (is_variable_letter letter ≡ true) × (number ≤ most_variable_number) × (bytes ≡ letter ∷ star ∷ suffix_of number)
+Spells (Node number) bytes = (1 ≤ number) × (number ≤ most_node_number) × (bytes ≡ between_dashes (decimal number))
 Spells (a_word word) bytes = bytes ≡ between_dashes (name_of word)
 Spells Opening bytes = bytes ≡ codes "("
 Spells Closing bytes = bytes ≡ codes ")"

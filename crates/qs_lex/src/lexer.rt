@@ -1,6 +1,7 @@
 //! The tokens of a text, or its first fault.
 
 ghost use Rattle.std.specs.Prelude.{◌≡◌, ◌<◌, ◌≤◌, ℕ, List, length, IfOk, IfErr, IsErr, slice_index};
+ghost use Rattle.qs_io.specs.Limits.{most_text_bytes};
 ghost use Rattle.qs_lex.specs.declared.token.Token.{Token};
 ghost use Rattle.qs_lex.specs.declared.refusal.Cause.{Cause};
 ghost use Rattle.qs_lex.specs.Tokens.{version_of, StandsIn, AreTokensOf, AreSpansFrom};
@@ -28,7 +29,7 @@ pub fn version(bytes: &[u8]) -> u8
 fn token_at(bytes: &[u8], version: u8, at: usize) -> Result<Token, Cause>
     requires of_text { version ≡ version_of bytes.now }
     requires inside { at < length bytes.now }
-    requires short { length bytes.now ≤ 4194304 }
+    requires short { length bytes.now ≤ most_text_bytes }
 
     ensures token { IfOk result (λ t. (t.from ≡ at) × StandsIn bytes.now t) }
     ensures some { IfOk result (λ t. at < t.to) }
@@ -50,7 +51,7 @@ fn token_at(bytes: &[u8], version: u8, at: usize) -> Result<Token, Cause>
 /// `Refused` comes exactly where the text has a faulty place, with the first one and its cause. `Memory` may come for
 /// any text.
 pub fn tokens(alloc: Global, text: &str) -> Result<Vec<Token>, LexEnd>
-    requires { length text.now ≤ 4194304 }
+    requires { length text.now ≤ most_text_bytes }
 
     ensures tokens { IfOk result (λ found. AreTokensOf text.now found.items) }
     ensures end { IfErr result (λ end. EndsFor text.now end) }

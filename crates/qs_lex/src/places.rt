@@ -2,11 +2,13 @@
 
 ghost use Rattle.std.specs.Prelude.{◌≡◌, ◌≤◌, ◌==◌, not, length, count_by, chars, IsCharBoundary};
 ghost use Rattle.std.specs.List.{suffix_len};
+ghost use Rattle.qs_lex.specs.Characters.{line_feed};
+ghost use Rattle.qs_io.specs.Limits.{most_text_bytes};
 ghost use Rattle.qs_lex.specs.Places.{line_of, column_of};
 
 /// How many line feeds the text has.
 fn line_feeds(text: &str) -> usize
-    ensures value { result ≡ count_by (λ c. c == 10) (chars text.now) }
+    ensures value { result ≡ count_by (λ c. c == line_feed) (chars text.now) }
     ensures bound { result ≤ length text.now }
 {
     text.chars().filter(|c| *c == '\n').count()
@@ -14,7 +16,7 @@ fn line_feeds(text: &str) -> usize
 
 /// How many characters the last line of the text has.
 fn last_line_len(text: &str) -> usize
-    ensures value { result ≡ suffix_len (λ c. not (c == 10)) (chars text.now) }
+    ensures value { result ≡ suffix_len (λ c. not (c == line_feed)) (chars text.now) }
     ensures bound { result ≤ length text.now }
 {
     let mut len = 0;
@@ -29,7 +31,7 @@ fn last_line_len(text: &str) -> usize
 /// The place is between characters, and the text has at most 4,194,304 bytes. It takes no memory.
 pub fn place(text: &str, byte: u32) -> (u32, u32)
     requires border { IsCharBoundary text.now byte }
-    requires short { length text.now ≤ 4194304 }
+    requires short { length text.now ≤ most_text_bytes }
 
     ensures line { result.0 ≡ line_of text.now byte }
     ensures column { result.1 ≡ column_of text.now byte }

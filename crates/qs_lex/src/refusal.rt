@@ -80,13 +80,14 @@ pub struct Refusal {
 
 impl Refusal {
     ghost use Rattle.std.specs.Prelude.{◌≤◌, length, IsCharBoundary};
+    ghost use Rattle.qs_io.specs.Limits.{most_text_bytes};
     ghost use Rattle.qs_lex.specs.Refusals.{Tells};
 
     /// What is told of a fault at this byte of the text, of this cause. The byte is between characters, and the text
     /// has at most 4,194,304 bytes. It takes no memory.
     pub fn at(text: &str, byte: u32, cause: Cause) -> Refusal
         requires border { IsCharBoundary text.now byte }
-        requires short { length text.now ≤ 4194304 }
+        requires short { length text.now ≤ most_text_bytes }
 
         ensures { Tells text.now byte cause result }
     {

@@ -8,6 +8,12 @@ use crate::characters::{capital_or_digit_len, digit_len, is_label, is_variable_l
 use crate::refusal::Cause;
 use crate::token::{Kind, Word};
 
+/// The greatest number of a variable.
+const MOST_VARIABLE_NUMBER: u32 = 99;
+
+/// The greatest number of a node mark.
+const MOST_NODE_NUMBER: u32 = 999_999_999;
+
 /// The number from 1 to `most` that the bytes write in decimal, without leading zero.
 fn number(bytes: &[u8], most: u32) -> Option<u32>
     ensures value { result ≡ number_after most 0 bytes.now }
@@ -33,7 +39,7 @@ fn with_digits(letter: u8, digits: &[u8]) -> Result<(Kind, usize), Cause>
     if digits.is_empty() {
         return Ok((Kind::Variable { letter, number: 0 }, 2));
     }
-    match number(digits, 99) {
+    match number(digits, MOST_VARIABLE_NUMBER) {
         Some(n) => Ok((
             Kind::Variable {
                 letter,
@@ -103,7 +109,7 @@ fn mark(bytes: &[u8], version: u8) -> Result<(Kind, usize), Cause>
     if let Some(word) = Word::named(name, version) {
         return Ok((Kind::Word(word), len + 2));
     }
-    match number(name, 999_999_999) {
+    match number(name, MOST_NODE_NUMBER) {
         Some(n) => Ok((Kind::Node(n), len + 2)),
         None => Err(Cause::BadWord),
     }

@@ -1,11 +1,11 @@
 -- The least way on from a node, and the next reading.
-use Rattle.std.proofs.Common.{◌≡◌, ◌<◌, ◌≤◌, ◌⊎◌, ℕ, suc, Option, Some, None, slice_get, List, [], ◌∷◌, ◌++◌, length, refl, sym, ◌∙◌, ap, subst, inl, inr, ⊎_elim, arith, append_assoc, append-nil}
+use Rattle.std.proofs.Common.{◌≡◌, ◌<◌, ◌≤◌, ◌⊎◌, ℕ, suc, Some, None, slice_get, List, [], ◌∷◌, ◌++◌, length, refl, sym, ◌∙◌, ap, subst, inl, inr, ⊎_elim, arith, append_assoc, append-nil}
 use Rattle.std.proofs.lemmas.Bool.{cases_order}
 use Rattle.qs_tree.proofs.Members.{in_at}
-use Rattle.qs_graph.specs.Graphs.{Arc, QGraph, Leads, IsEntry, IsExit, IsValid}
+use Rattle.qs_graph.specs.Graphs.{Arc, QGraph, Leads, IsEntry, IsValid}
 use Rattle.qs_graph.proofs.Paths.{place_of, leads-append}
 use Rattle.qs_phrase.specs.Readings.{IsReading, IsBefore}
-use Rattle.qs_phrase.specs.working.Leaving.{Leaves, IsLeast}
+use Rattle.qs_phrase.specs.working.Leaving.{IsLeast}
 use Rattle.qs_phrase.specs.working.Walking.{IsWay, IsUpTo, GoesOn, IsNext, IsLast}
 use Rattle.qs_phrase.proofs.Orders.{before_here, before_parts, before_front, not_back, up_to_behind}
 use Rattle.qs_phrase.proofs.Ways.{leads_through, leads_more, same_arc, end_node, path_is_short, way_of, reading_of}

@@ -1,25 +1,12 @@
 -- The arcs that leave each node, with one arc more, from the last arc down.
-use Rattle.std.proofs.Common.{◌≡◌, ◌≢◌, ◌<◌, ◌≤◌, ◌+◌, ◌⊎◌, ℕ, zero, suc, Option, Some, None, slice_get, List, [], ◌∷◌, length, get_or, set, replicate, refl, sym, ◌∙◌, ap, subst, inl, inr, ⊎_elim, arith, length-set}
+use Rattle.std.proofs.Common.{◌≡◌, ◌<◌, ◌≤◌, ◌+◌, ◌⊎◌, ℕ, zero, suc, Option, Some, None, slice_get, List, [], ◌∷◌, length, get_or, set, replicate, refl, sym, ◌∙◌, ap, subst, inl, inr, ⊎_elim, arith, length-set}
 use Rattle.std.proofs.lemmas.List.{length-replicate}
 use Rattle.std.proofs.lemmas.Option.{slice_get_within}
+use Rattle.qs_tree.proofs.Elements.{set_cases, of_replicate}
 use Rattle.qs_tree.proofs.Decisions.{decide_number}
 use Rattle.qs_tree.proofs.Members.{at_place, in_at}
 use Rattle.qs_graph.specs.Graphs.{Arc, QGraph, IsValid}
 use Rattle.qs_phrase.specs.working.Leaving.{Leaves, IsLeast, IsIndex}
-
--- what stands at a place of a list of which one place was set
-pub set_cases : {X : Type 0} (xs : List X) (m : ℕ) (y : X) (n : ℕ) (x : X) → slice_get (set xs m y) n ≡ Some x → ((n ≡ m) × (x ≡ y)) ⊎ ((n ≡ m → ⊥) × (slice_get xs n ≡ Some x))
-set_cases [] m y n x e = absurd cc
-set_cases (z ∷ xs) zero y zero x e = inl (refl, cc)
-set_cases (z ∷ xs) zero y (suc n) x e = inr ((λ d. omega arith), e)
-set_cases (z ∷ xs) (suc m) y zero x e = inr ((λ d. omega arith), e)
-set_cases (z ∷ xs) (suc m) y (suc n) x e = ⊎_elim (λ (d, s). inl (ap suc d, s)) (λ (d, s). inr ((λ f. d (omega arith)), s)) (set_cases xs m y n x e)
-
--- a place of a list of equal members
-pub all_equal : {X : Type 0} (n : ℕ) (y : X) (k : ℕ) (x : X) → slice_get (replicate n y) k ≡ Some x → x ≡ y
-all_equal zero y k x e = absurd cc
-all_equal (suc n) y zero x e = cc
-all_equal (suc n) y (suc k) x e = all_equal n y k x e
 
 module _ (G : QGraph) where
   -- behind the last arc there is none
@@ -27,7 +14,7 @@ module _ (G : QGraph) where
   no_arc_yet first next p q = record {
     first_len = ap length p ∙ length-replicate (G.nodes + 1) None;
     next_len = ap length q ∙ length-replicate (length G.arcs) None;
-    first_is = λ n o e. subst (IsLeast G.arcs n (length G.arcs)) (sym (all_equal (G.nodes + 1) None n o (ap (λ xs. slice_get xs n) (sym p) ∙ e)))
+    first_is = λ n o e. subst (IsLeast G.arcs n (length G.arcs)) (sym (of_replicate (G.nodes + 1) None n o (ap (λ xs. slice_get xs n) (sym p) ∙ e)))
         (λ j low (arc, is, from). let l = slice_get_within G.arcs j arc is in omega arith);
     next_is = λ k arc o low is e. let l = slice_get_within G.arcs k arc is in absurd (omega arith);
   }

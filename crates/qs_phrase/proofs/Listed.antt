@@ -1,5 +1,5 @@
 -- Readings one behind the other.
-use Rattle.std.proofs.Common.{◌≡◌, ◌<◌, ◌≤◌, ◌⊎◌, ◌↔◌, ℕ, Bool, true, false, List, [], ◌∷◌, ◌++◌, length, refl, sym, ◌∙◌, ap, subst, inl, inr, ⊎_elim, arith}
+use Rattle.std.proofs.Common.{◌≡◌, ◌≤◌, ◌⊎◌, ◌↔◌, ℕ, Bool, true, false, List, [], ◌∷◌, ◌++◌, length, refl, sym, subst, inl, inr, ⊎_elim}
 use Rattle.qs_tree.specs.Lists.{◌∈◌, Ascends}
 use Rattle.qs_tree.proofs.Members.{from_append, in_append_left, in_append_right}
 use Rattle.qs_graph.specs.Graphs.{QGraph, IsEntry, IsValid}

@@ -1,12 +1,11 @@
 -- Ways through a valid graph: they are short, and each arc lies on one from the entry to the exit.
-use Rattle.std.proofs.Common.{◌≡◌, ◌≢◌, ◌<◌, ◌≤◌, ◌+◌, ◌⊎◌, ℕ, zero, suc, Some, slice_get, List, [], ◌∷◌, ◌++◌, length, refl, sym, ◌∙◌, ap, subst, inl, inr, ⊎_elim, arith, length-append, append_assoc}
-use Rattle.std.proofs.lemmas.Option.{slice_get_within}
+use Rattle.std.proofs.Common.{◌≡◌, ◌≢◌, ◌<◌, ◌≤◌, ◌+◌, ◌⊎◌, ℕ, zero, suc, Some, slice_get, List, [], ◌∷◌, ◌++◌, length, refl, sym, ◌∙◌, ap, subst, inl, inr, ⊎_elim, arith, length-append}
 use Rattle.qs_tree.specs.Lists.{◌∈◌}
 use Rattle.qs_tree.proofs.Decisions.{decide_number}
-use Rattle.qs_tree.proofs.Members.{in_at, in_append_left, in_append_right}
-use Rattle.qs_graph.specs.Graphs.{Arc, QGraph, Leads, IsPath, IsNode, IsEntry, IsExit, IsValid}
+use Rattle.qs_tree.proofs.Members.{in_at, in_append_right}
+use Rattle.qs_graph.specs.Graphs.{Arc, QGraph, Leads, IsNode, IsEntry, IsExit, IsValid}
 use Rattle.qs_graph.specs.working.Orders.{AreApart}
-use Rattle.qs_graph.proofs.Paths.{place_of, leads-append}
+use Rattle.qs_graph.proofs.Paths.{leads-append}
 use Rattle.qs_graph.proofs.Numbers.{apart_fit}
 use Rattle.qs_phrase.specs.Readings.{IsReading}
 use Rattle.qs_phrase.specs.working.Leaving.{Leaves}

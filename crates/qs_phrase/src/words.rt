@@ -1,6 +1,7 @@
 //! The graph of a line of words.
 
 ghost use Rattle.std.specs.Prelude.{◌≡◌, ◌<◌, ◌≤◌, IfOk, length, map};
+ghost use Rattle.qs_graph.specs.Limits.{most_read_arcs};
 ghost use Rattle.qs_phrase.specs.Words.{word_tree, graph_of_words};
 
 use qs_graph::Graph;
@@ -11,7 +12,7 @@ use std::alloc::{AllocError, Global};
 /// from 3 on. A word is a tree of one node.
 pub fn linear(alloc: Global, words: &[Label]) -> Result<Graph, AllocError>
     requires some { 0 < length words.now }
-    requires few { length words.now ≤ 65536 }
+    requires few { length words.now ≤ most_read_arcs }
     ensures { IfOk result (λ g. g ≡ graph_of_words words.now) }
 {
     let trees = trees_of(alloc, words)?;

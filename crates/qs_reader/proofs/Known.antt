@@ -2,21 +2,17 @@
 -- is whole, or it is begun and can't go on, by this grammar or by one whose lines it takes in.
 use Rattle.std.proofs.Common.{◌≡◌, ◌≢◌, ℕ, ◌+◌, ◌<◌, ◌≤◌, Bool, false, refl, sym, subst, List, [], ◌∷◌, ◌++◌, length, drop, length-drop, arith}
 use Rattle.qs_lex.specs.declared.token.Token.{Token}
-use Rattle.qs_lex.specs.Grammar.{Sort, sort_of, Form, repeated, renamed, Grammar, IsWhole, no_more, one_more}
+use Rattle.qs_lex.specs.Grammar.{Sort, Form, repeated, renamed, Grammar, IsWhole, no_more, one_more}
 use Rattle.qs_lex.specs.Expecting.{NextIsNo}
 use Rattle.qs_lex.specs.working.Expecting.{first, goes_on, IsPredictive}
 use Rattle.qs_lex.proofs.Expected.{FrontsOrNone, begin_front}
 use Rattle.qs_lex.proofs.Predictive.{IsPredicted, whole_leads}
 use Rattle.qs_lex.proofs.Renaming.{whole_back, begins_in, begins_back}
-use Rattle.qs_lex.proofs.Stopping.{part_stops}
+use Rattle.qs_lex.proofs.Stopping.{part_stops, nothing_next}
 use Rattle.qs_reader.specs.Names.{KeepsNames, NamesGrow}
 use Rattle.qs_reader.specs.Readers.{Reading, between, CannotGoOn}
 use Rattle.qs_reader.specs.working.Readers.{IsTaken, takes_known, takes_no_more, takes_more, StopsIn, stops_known, stops_in_more, stops_later, Reads, IsRead, StopsAt}
 use Rattle.qs_reader.proofs.Between.{next_at, between_drop, some_between}
-
-nothing_next : (p : Sort → Bool) (ts : List Token) → ((k : Sort) → p k ≡ false) → NextIsNo p ts
-nothing_next p [] none = tt
-nothing_next p (t ∷ ts) none = none (sort_of t.kind)
 
 module _ {Part : Type 0} {line : Grammar Part} (table more : Part → Sort → Bool) (ok : IsPredicted line table more) {f : Form Part} (good : IsPredictive table more f)
     (closed : (k : Sort) → goes_on table more f k ≡ false) where

@@ -1,4 +1,5 @@
 pub mod Naming
+pub mod Additions
 pub mod Tokens
 pub mod Taking
 pub mod Steps

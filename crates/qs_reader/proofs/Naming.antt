@@ -40,7 +40,7 @@ pub one_name : (text : List ℕ) (ts rest : List Token) (t : Token) (old new : L
 one_name text ts rest t old new e adds = (t ∷ [], e, (new, adds, refl))
 
 -- one that is no label
-not_label : (s : Sort) (t : Token) → same_sort a_label s ≡ false → IsOf s t → IsLabel t → ⊥
+pub not_label : (s : Sort) (t : Token) → same_sort a_label s ≡ false → IsOf s t → IsLabel t → ⊥
 not_label s t differs of is =
     let a : sort_of t.kind ≡ a_label = ⊎_elim (λ e. ap sort_of e) (λ e. ap sort_of e) is in
     let same : true ≡ same_sort a_label s = ap (same_sort a_label) (sym a ∙ of) in
@@ -68,13 +68,13 @@ adds_name_of text t spelling old new (Ok label) is named known grows = inr (spel
 adds_name_of text t spelling old new (Err e) is named known grows = tt
 
 -- the names grow in one way
-one_addition : (old new other : List (List ℕ)) (label : List ℕ) → AddsName old label new → AddsName old label other → new ≡ other
+pub one_addition : (old new other : List (List ℕ)) (label : List ℕ) → AddsName old label new → AddsName old label other → new ≡ other
 one_addition old new other label (inl a) (inl b) = a.1 ∙ sym b.1
 one_addition old new other label (inl a) (inr b) = absurd (b.0 a.0)
 one_addition old new other label (inr a) (inl b) = absurd (a.0 b.0)
 one_addition old new other label (inr a) (inr b) = a.1 ∙ sym b.1
 
-is_label : (text : List ℕ) (t : Token) (spelling : List ℕ) → HasLabelText text t spelling → IsLabel t
+pub is_label : (text : List ℕ) (t : Token) (spelling : List ℕ) → HasLabelText text t spelling → IsLabel t
 is_label text t spelling h = by_kind t.kind (bytes_of text t) h
   where
     by_kind : (kind : Kind) (bytes : List ℕ) → IsLabelText kind bytes spelling → (kind ≡ Bare) ⊎ (kind ≡ Quoted)
@@ -112,7 +112,7 @@ place_of [] label text (suc i) e = absurd cc
 place_of (x ∷ names) label text zero e = inl e
 place_of (x ∷ names) label text (suc i) e = ⊎_elim (λ h. inl h) (λ h. inr (ap suc h.0, h.1)) (place_of names label text i e)
 
-still_distinct : (old new : List (List ℕ)) (label : List ℕ) → AreDistinct old → AddsName old label new → AreDistinct new
+pub still_distinct : (old new : List (List ℕ)) (label : List ℕ) → AreDistinct old → AddsName old label new → AreDistinct new
 still_distinct old new label distinct (inl a) = subst AreDistinct (sym a.1) distinct
 still_distinct old new label distinct (inr a) = subst AreDistinct (sym a.1) (λ i j text e f. at_both i j text (place_of old label text i e) (place_of old label text j f))
   where

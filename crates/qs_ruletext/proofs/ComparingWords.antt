@@ -3,7 +3,7 @@ use Rattle.std.proofs.Common.{◌≡◌, Bool, false, List, ◌∷◌, refl, sym
 use Rattle.qs_lex.specs.declared.token.Token.{Token}
 use Rattle.qs_lex.specs.declared.token.Word.{Word}
 use Rattle.qs_lex.specs.declared.token.Word.TheVariants.{Dans, Hors, Egal}
-use Rattle.qs_lex.specs.Grammar.{Sort, the_word, IsOf, one, ◌∣◌, IsWhole, whole_token, whole_this, whole_other}
+use Rattle.qs_lex.specs.Grammar.{Sort, the_word, IsOf, IsWhole, whole_token, whole_this, whole_other}
 use Rattle.qs_pattern.specs.Conditions.{Comparing, within, outside, same}
 use Rattle.qs_ruletext.specs.Grammar.{line}
 use Rattle.qs_ruletext.specs.Reading.{comparing_word}

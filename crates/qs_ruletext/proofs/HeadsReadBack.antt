@@ -14,6 +14,7 @@ use Rattle.qs_lex.specs.Spelling.{EndsBefore, IsLabelText, between_quotes, suffi
 use Rattle.qs_lex.specs.Tokens.{blank_len, bytes_of, HasLabelText}
 use Rattle.qs_lex.specs.Grammar.{Sort, a_label_variable, a_tree_variable, a_forest_variable, sort_of, variable_sort}
 use Rattle.qs_lex.proofs.Choices.{each_from_all}
+use Rattle.qs_lex.proofs.Scanned.{letter_is_label}
 use Rattle.qs_tree.specs.Text.{is_bare, is_label_byte, name_of, label_text}
 use Rattle.qs_pattern.specs.declared.variable.Var.{Var}
 use Rattle.qs_pattern.specs.declared.pattern.Head.{Head}
@@ -58,9 +59,6 @@ label_no_blank b bs e = cond-false (eqb b 35) _ _ (no_sign b e) ∙ cond-false (
 bare_no_blank : (name left : List ℕ) → 0 < length name → Each is_label name → blank_len (name ++ left) ≡ 0
 bare_no_blank [] left some each = absurd (omega arith)
 bare_no_blank (b ∷ bs) left some each = label_no_blank b (bs ++ left) each.0
-
-letter_is_label : (b : ℕ) → is_variable_letter b ≡ true → is_label b ≡ true
-letter_is_label b e = grind (arith, nat_tests)
 
 -- the letters of a class
 label_letter : (l : ℕ) → 65 ≤ l → l ≤ 70 → (is_variable_letter l ≡ true) × (variable_sort l ≡ a_label_variable)

@@ -1,10 +1,9 @@
 -- Names that grow by tokens of a text name each label among them, and there are such names for all tokens of a text.
-use Rattle.std.proofs.Common.{◌≡◌, ℕ, zero, suc, Bool, true, false, refl, sym, ◌∙◌, ap, subst, ⊎_elim, inl, inr, List, [], ◌∷◌, ◌++◌, length, Some, slice_get, Contains}
+use Rattle.std.proofs.Common.{◌≡◌, ℕ, Bool, true, false, refl, sym, ◌∙◌, ap, subst, ⊎_elim, inl, inr, List, [], ◌∷◌, length, Some, slice_get}
 use Rattle.std.specs.Prelude.{◌⊎◌}
 use Rattle.std.specs.Int.{is_in_range}
 use Rattle.std.specs.List.{All}
 use Rattle.std.proofs.lemmas.List.Elements.{All-nil, All-cons, All-head, All-tail}
-use Rattle.std.proofs.lemmas.Option.{slice_get-get_or}
 use Rattle.qs_lex.specs.declared.token.Token.{Token}
 use Rattle.qs_lex.specs.declared.token.Kind.{Kind}
 use Rattle.qs_lex.specs.declared.token.Kind.TheVariants.{Bare, Quoted, Variable, Node, Word as a_word, Opening, Closing, Comma, Plus, Slash, Equals, Stop}
@@ -14,15 +13,13 @@ use Rattle.qs_lex.specs.Grammar.{Sort, a_label, variable_sort, sort_of, IsOf}
 use Rattle.qs_lex.specs.Expecting.{same_sort}
 use Rattle.qs_lex.proofs.Readings.{token_stands}
 use Rattle.qs_tree.specs.declared.cell.Label.{Label}
-use Rattle.qs_tree.specs.Lists.{◌∈◌}
-use Rattle.qs_tree.proofs.Decisions.{decide_number, decide_list, decide_member}
-use Rattle.qs_tree.proofs.Members.{in_at}
-use Rattle.qs_tree.proofs.NamesLemmas.{Contains-slice_get}
+use Rattle.qs_tree.proofs.NamesLemmas.{slice_get-last}
 use Rattle.qs_pattern.specs.declared.variable.Var.{Var}
 use Rattle.qs_ruletext.specs.Reading.{IsVariableOf}
 use Rattle.qs_reader.specs.Names.{IsLabelOf, KeepsNames, AddsName, AddsNameOf, NamesGrow}
 use Rattle.qs_ruletext.specs.working.Readers.{IsGood, is_variable}
 use Rattle.qs_ruletext.proofs.SideSteps.{spelled_good}
+use Rattle.qs_reader.proofs.Additions.{addition_keeps, contained_place, name_added}
 
 -- in these names the token has a number where it is a label, and it is a variable where its sort says so
 pub record IsKnown (names : List (List ℕ)) (text : List ℕ) (t : Token) : Type 0 where
@@ -74,15 +71,6 @@ variable_of t s good is of = by t.kind refl good of
 
 -- ---- names that grow keep what they have
 
-place_in_longer : (names more : List (List ℕ)) (k : ℕ) (text : List ℕ) → slice_get names k ≡ Some text → slice_get (names ++ more) k ≡ Some text
-place_in_longer [] more k text e = absurd cc
-place_in_longer (n ∷ names) more zero text e = e
-place_in_longer (n ∷ names) more (suc k) text e = place_in_longer names more k text e
-
-addition_keeps : (old new : List (List ℕ)) (label : List ℕ) → AddsName old label new → KeepsNames old new
-addition_keeps old new label (inl a) k text e = subst (λ ns. slice_get ns k ≡ Some text) (sym a.1) e
-addition_keeps old new label (inr a) k text e = subst (λ ns. slice_get ns k ≡ Some text) (sym a.1) (place_in_longer old (label ∷ []) k text e)
-
 token_keeps : (text : List ℕ) (t : Token) (old new : List (List ℕ)) → AddsNameOf text t old new → KeepsNames old new
 token_keeps text t old new (inl a) k spelling e = subst (λ ns. slice_get ns k ≡ Some spelling) (sym a.1) e
 token_keeps text t old new (inr a) k spelling e = addition_keeps old new a.0 a.2 k spelling e
@@ -91,17 +79,9 @@ grow_keeps : (text : List ℕ) (ts : List Token) (old new : List (List ℕ)) →
 grow_keeps text [] old new g k spelling e = subst (λ ns. slice_get ns k ≡ Some spelling) (sym g) e
 grow_keeps text (t ∷ ts) old new g k spelling e = grow_keeps text ts g.0 new g.2 k spelling (token_keeps text t old g.0 g.1 k spelling e)
 
--- a text that is contained stands at a place
-place_of : (names : List (List ℕ)) (label : List ℕ) → Contains names label → (k : ℕ) × (slice_get names k ≡ Some label)
-place_of names label c = (c.0, slice_get-get_or names c.0 label c.1 ∙ ap (λ text. Some text) c.2)
-
-last_place : (names : List (List ℕ)) (label : List ℕ) → slice_get (names ++ label ∷ []) (length names) ≡ Some label
-last_place [] label = refl
-last_place (n ∷ names) label = last_place names label
-
 added_place : (old new : List (List ℕ)) (label : List ℕ) → AddsName old label new → (k : ℕ) × (slice_get new k ≡ Some label)
-added_place old new label (inl a) = let p = place_of old label a.0 in (p.0, subst (λ ns. slice_get ns p.0 ≡ Some label) (sym a.1) p.1)
-added_place old new label (inr a) = (length old, subst (λ ns. slice_get ns (length old) ≡ Some label) (sym a.1) (last_place old label))
+added_place old new label (inl a) = let p = contained_place old label a.0 in (p.0, subst (λ ns. slice_get ns p.0 ≡ Some label) (sym a.1) p.1)
+added_place old new label (inr a) = (length old, subst (λ ns. slice_get ns (length old) ≡ Some label) (sym a.1) (slice_get-last old label (length old) refl))
 
 label_of : (names : List (List ℕ)) (text : List ℕ) (t : Token) (old new : List (List ℕ)) → AddsNameOf text t old new → KeepsNames new names → IsOf a_label t
     → (l : Label) × IsLabelOf names text t l
@@ -143,18 +123,6 @@ text_of text t of = by t.kind (bytes_of text t) (token_stands of).spelled
     by Equals bytes s = inl (unlabelled Equals refl)
     by Stop bytes s = inl (unlabelled Stop refl)
 
-member_place : (names : List (List ℕ)) (label : List ℕ) → label ∈ names → (k : ℕ) × (slice_get names k ≡ Some label)
-member_place [] label i = absurd i
-member_place (n ∷ names) label (inl e) = (0, ap (λ text. Some text) (sym e))
-member_place (n ∷ names) label (inr i) = let p = member_place names label i in (suc p.0, p.1)
-
-one_addition : (old : List (List ℕ)) (label : List ℕ) → (new : List (List ℕ)) × AddsName old label new
-one_addition old label = by (decide_member (decide_list decide_number) label old)
-  where
-    by : Dec (label ∈ old) → (new : List (List ℕ)) × AddsName old label new
-    by (yes i) = let p = member_place old label i in (old, inl (Contains-slice_get old label p.0 p.1, refl))
-    by (no n) = (old ++ label ∷ [], inr (λ c. let p = place_of old label c in n (in_at old p.0 label p.1), refl))
-
 -- the names grow by all tokens of a text
 pub names_grow : (text : List ℕ) (ts : List Token) (old : List (List ℕ)) → All (IsTokenOf text) ts → (new : List (List ℕ)) × NamesGrow text ts old new
 names_grow text [] old all = (old, refl)
@@ -163,4 +131,4 @@ names_grow text (t ∷ ts) old all = by (text_of text t (All-head (IsTokenOf tex
     by : (IsLabel t → ⊥) ⊎ ((label : List ℕ) × HasLabelText text t label) → ((next : List (List ℕ)) → (new : List (List ℕ)) × NamesGrow text ts next new)
         → (new : List (List ℕ)) × NamesGrow text (t ∷ ts) old new
     by (inl n) rest = let g = rest old in (g.0, (old, inl (n, refl), g.1))
-    by (inr l) rest = let a = one_addition old l.0 in let g = rest a.0 in (g.0, (a.0, inr (l.0, l.1, a.1), g.1))
+    by (inr l) rest = let a = name_added old l.0 in let g = rest a.0 in (g.0, (a.0, inr (l.0, l.1, a.1), g.1))

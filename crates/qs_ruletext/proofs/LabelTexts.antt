@@ -6,12 +6,9 @@ use Rattle.std.proofs.lemmas.List.{append-nil, map-append}
 use Rattle.std.proofs.lemmas.List.Elements.{Contains-append_left, Contains-append_right, Contains-append_cases, Contains-push, Contains-push_cases, Contains-get_or}
 use Rattle.std.proofs.lemmas.Option.{slice_get-get_or, slice_get_within, unwrap_or-slice_get}
 use Rattle.qs_lex.specs.declared.token.Token.{Token}
-use Rattle.qs_lex.specs.declared.token.Kind.{Kind}
-use Rattle.qs_lex.specs.declared.token.Kind.TheVariants.{Bare, Quoted}
 use Rattle.qs_lex.specs.declared.token.Word.TheVariants.{Et, Ou, Non}
-use Rattle.qs_lex.specs.Spelling.{IsLabelText}
 use Rattle.qs_lex.specs.Tokens.{bytes_of, IsLabel, HasLabelText}
-use Rattle.qs_lex.specs.Grammar.{Sort, a_label, a_label_variable, a_tree_variable, a_forest_variable, the_word, opening, closing, comma, plus, slash, equals, stop, sort_of, IsOf}
+use Rattle.qs_lex.specs.Grammar.{Sort, a_label, a_label_variable, a_tree_variable, a_forest_variable, the_word, opening, closing, comma, plus, slash, equals, stop, IsOf}
 use Rattle.qs_lex.specs.Expecting.{same_sort}
 use Rattle.qs_lex.proofs.Quotes.{one_label_text}
 use Rattle.qs_tree.specs.declared.cell.Label.{Label}
@@ -27,8 +24,8 @@ use Rattle.qs_ruletext.specs.WrittenRules.{WrittenRule}
 use Rattle.qs_reader.specs.Names.{IsLabelOf, AddsName, AddsNameOf, NamesGrow}
 use Rattle.qs_ruletext.specs.Reading.{comparing_word, IsHeadOf, joined, ReadsTree, reads_node, reads_tree_variable, ReadsSubtrees, no_parentheses, nothing_inside, list_inside, ReadsList, reads_list, ReadsMoreItems, no_more_items, one_more_item, ReadsItem, reads_tree, reads_forest_variable, ReadsMoreTrees, no_more_trees, one_more_tree, ReadsSide, reads_side, any_of, all_of, ReadsCond, reads_cond, ReadsMoreConjs, no_more_conjs, one_more_conj, ReadsConj, reads_conj, ReadsMoreNegs, no_more_negs, one_more_neg, ReadsNeg, not_negated, reads_negated, ReadsPrim, reads_group, reads_compared}
 use Rattle.qs_ruletext.specs.Rules.{ReadsCondIfGiven, no_cond, some_cond, ReadsRule, reads_rule, ReadsRules}
-use Rattle.qs_ruletext.proofs.OneReading.{one_sort}
 use Rattle.qs_ruletext.proofs.ComparingWords.{none_compares}
+use Rattle.qs_reader.proofs.Naming.{not_label, is_label}
 
 -- the texts of the labels among these tokens, in order
 abbrev pub HaveTexts : List ℕ → List Token → List (List ℕ) → Type 0
@@ -123,9 +120,6 @@ passes_label {names} {text} {t} {label} is =
       texts = inr (name_of names label, [], subst (λ spelling. HasLabelText text t spelling) spelled is.of_token, refl, refl);
       named = λ l i. ⊎_elim (λ e. subst (λ (m : Label). m.0 < length names) (sym e) (slice_get_within names label.0 is.spelling is.named)) (λ none. absurd none) i;
     }
-
-not_label : (s : Sort) (t : Token) → same_sort a_label s ≡ false → IsOf s t → IsLabel t → ⊥
-not_label s t differs of is = one_sort a_label s t differs (⊎_elim (λ e. ap sort_of e) (λ e. ap sort_of e) is) of
 
 pub passes_sign : {names : List (List ℕ)} {text : List ℕ} {t : Token} {ts : List Token} (s : Sort) → same_sort a_label s ≡ false → IsOf s t → PassesLabels names text (t ∷ ts) [] ts
 passes_sign {t} s differs of = record { passed = t ∷ []; are = refl; texts = inl (not_label s t differs of, refl); named = λ l i. absurd i }
@@ -234,14 +228,6 @@ NamesGrowBy [] old new = new ≡ old
 NamesGrowBy (label ∷ labels) old new = (next : List (List ℕ)) × AddsName old label next × NamesGrowBy labels next new
 
 -- what a token that is no label, and one that is, does to the names
-is_label : (text : List ℕ) (t : Token) (label : List ℕ) → HasLabelText text t label → IsLabel t
-is_label text t label h = by_kind t.kind (bytes_of text t) h
-  where
-    by_kind : (kind : Kind) (bytes : List ℕ) → IsLabelText kind bytes label → (kind ≡ Bare) ⊎ (kind ≡ Quoted)
-    by_kind Bare bytes g = inl refl
-    by_kind Quoted bytes g = inr refl
-    by_kind _ bytes g = absurd g
-
 no_addition : (text : List ℕ) (t : Token) (old new : List (List ℕ)) → (¬ IsLabel t) → AddsNameOf text t old new → new ≡ old
 no_addition text t old new isnt (inl a) = a.1
 no_addition text t old new isnt (inr a) = absurd (isnt (is_label text t a.0 a.1))

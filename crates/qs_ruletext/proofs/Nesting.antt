@@ -2,6 +2,7 @@
 -- are written for.
 use Rattle.std.proofs.Common.{◌≡◌, ℕ, zero, suc, ◌+◌, ◌<◌, ◌≤◌, refl, subst, List, [], ◌∷◌, take, arith, Option, Some, None, slice_get}
 use Rattle.std.specs.Prelude.{max, nat_le, if◌then◌else◌, fold}
+use Rattle.qs_lex.specs.Limits.{most_open}
 use Rattle.qs_lex.specs.declared.token.Token.{Token}
 use Rattle.qs_lex.specs.declared.token.Kind.{Kind}
 use Rattle.qs_lex.specs.declared.token.Kind.TheVariants.{Bare, Quoted, Variable, Node, Word as a_word, Opening, Closing, Comma, Plus, Slash, Equals, Stop}
@@ -15,17 +16,17 @@ use Rattle.qs_ruletext.specs.Texts.{tightness, joining_tightness}
 -- at most 1,000 parentheses are open behind each of these tokens, where so many are open before them
 abbrev pub Fits : ℕ → List Token → Type 0
 Fits depth [] = Unit {0}
-Fits depth (t ∷ ts) = (open_behind depth t.kind ≤ 1000) × Fits (open_behind depth t.kind) ts
+Fits depth (t ∷ ts) = (open_behind depth t.kind ≤ most_open) × Fits (open_behind depth t.kind) ts
 
 -- the token at this index opens one more than 1,000, where so many are open before them all
 record IsTooDeepFrom (depth : ℕ) (ts : List Token) (index : ℕ) : Type 0 where
   token : Token
   there : slice_get ts index ≡ Some token
   opening : token.kind ≡ Opening
-  deep : 1000 < fold (λ n t. open_behind n t.kind) depth (take (suc index) ts)
+  deep : most_open < fold (λ n t. open_behind n t.kind) depth (take (suc index) ts)
 
 -- only an opening parenthesis makes more of them open
-first_fits : (depth : ℕ) (kind : Kind) → depth ≤ 1000 → (kind ≡ Opening → open_behind depth kind ≤ 1000) → open_behind depth kind ≤ 1000
+first_fits : (depth : ℕ) (kind : Kind) → depth ≤ most_open → (kind ≡ Opening → open_behind depth kind ≤ most_open) → open_behind depth kind ≤ most_open
 first_fits depth Opening few opened = opened refl
 first_fits depth Closing few opened = omega (arith, few)
 first_fits depth Bare few opened = few
@@ -39,15 +40,15 @@ first_fits depth Slash few opened = few
 first_fits depth Equals few opened = few
 first_fits depth Stop few opened = few
 
-fits_from : (depth : ℕ) (ts : List Token) → depth ≤ 1000 → ((index : ℕ) → IsTooDeepFrom depth ts index → ⊥) → Fits depth ts
+fits_from : (depth : ℕ) (ts : List Token) → depth ≤ most_open → ((index : ℕ) → IsTooDeepFrom depth ts index → ⊥) → Fits depth ts
 fits_from depth [] few shallow = tt
 fits_from depth (t ∷ ts) few shallow =
-    let first : open_behind depth t.kind ≤ 1000 = first_fits depth t.kind few (λ e. not_more e (λ more. shallow zero (record { token = t; there = refl; opening = e; deep = more }))) in (
+    let first : open_behind depth t.kind ≤ most_open = first_fits depth t.kind few (λ e. not_more e (λ more. shallow zero (record { token = t; there = refl; opening = e; deep = more }))) in (
       first,
       fits_from (open_behind depth t.kind) ts first (λ index d. shallow (suc index) (record { token = d.token; there = d.there; opening = d.opening; deep = d.deep })),
     )
   where
-    not_more : t.kind ≡ Opening → (1000 < open_behind depth t.kind → ⊥) → open_behind depth t.kind ≤ 1000
+    not_more : t.kind ≡ Opening → (most_open < open_behind depth t.kind → ⊥) → open_behind depth t.kind ≤ most_open
     not_more e few = omega (arith, few)
 
 shallow_from : (depth : ℕ) (ts : List Token) (index : ℕ) → Fits depth ts → IsTooDeepFrom depth ts index → ⊥
@@ -67,7 +68,7 @@ fits_if_shallow ts shallow = fits_from 0 ts (omega arith) (λ index d. shallow i
           token = d.token;
           there = d.there;
           opening = d.opening;
-          deep = subst (λ n. 1000 < fold (λ m t. open_behind m t.kind) 0 (take n ts)) e d.deep;
+          deep = subst (λ n. most_open < fold (λ m t. open_behind m t.kind) 0 (take n ts)) e d.deep;
         }
 
 pub shallow_if_fits : (ts : List Token) → Fits 0 ts → (index : ℕ) → IsTooDeep ts index → ⊥
@@ -77,7 +78,7 @@ shallow_if_fits ts fits index d =
       token = d.token;
       there = d.there;
       opening = d.opening;
-      deep = subst (λ n. 1000 < fold (λ m t. open_behind m t.kind) 0 (take n ts)) e d.deep;
+      deep = subst (λ n. most_open < fold (λ m t. open_behind m t.kind) 0 (take n ts)) e d.deep;
     })
 
 -- how many parentheses are open at most in what is written below a head, by how many are within the list: none where the list

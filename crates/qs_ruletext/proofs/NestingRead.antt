@@ -1,6 +1,7 @@
 -- What is read of tokens that fit is no higher than they allow. Parentheses with nothing in them, and those that group, leave
 -- no trace: a reading has at least the parentheses that are written for what was read.
 use Rattle.std.proofs.Common.{ℕ, ◌+◌, ◌≤◌, refl, List, ◌∷◌, arith, Option}
+use Rattle.qs_lex.specs.Limits.{most_open}
 use Rattle.qs_lex.specs.declared.token.Token.{Token}
 use Rattle.qs_pattern.specs.Patterns.{Patterns}
 use Rattle.qs_pattern.specs.Conditions.{Condition, Conditions, no_condition, condition_first}
@@ -94,5 +95,5 @@ rule_shows (reads_rule {t} {u} {rest = rest} left is right given stops) =
 
 -- the same in plain words: where the tokens of a rule fit, as many more parentheses as the rule needs may be open
 pub rule_read_fits : {names : List (List ℕ)} {text : List ℕ} {ts rest : List Token} {r : UnmarkedRule} → ReadsRule names text ts r rest
-    → (depth : ℕ) → depth ≤ 1000 → Fits depth ts → (rule_height r + depth ≤ 1000) × Fits depth rest
+    → (depth : ℕ) → depth ≤ most_open → Fits depth ts → (rule_height r + depth ≤ most_open) × Fits depth rest
 rule_read_fits reads = (rule_shows reads).fits

@@ -3,6 +3,7 @@
 use Rattle.std.proofs.Common.{◌≡◌, ℕ, suc, ◌+◌, ◌-◌, ◌≤◌, Bool, true, false, refl, sym, ap, ◌∙◌, subst, List, ◌∷◌, arith}
 use Rattle.std.specs.Prelude.{max, if◌then◌else◌}
 use Rattle.std.specs.Int.{is_in_range}
+use Rattle.qs_lex.specs.Limits.{most_open}
 use Rattle.qs_lex.specs.declared.token.Token.{Token}
 use Rattle.qs_lex.specs.declared.token.Kind.{Kind}
 use Rattle.qs_lex.specs.declared.token.Kind.TheVariants.{Bare, Quoted, Variable, Node, Word as a_word, Opening, Closing, Comma, Plus, Slash, Equals, Stop}
@@ -64,11 +65,11 @@ head_keeps names text t (head.Var v) is = keeps a_label_variable t (λ n. refl) 
 
 -- Where the tokens fit, they show that so many more could be open, and those behind them fit.
 pub record Shows (height : ℕ) (ts rest : List Token) : Type 0 where
-  pub fits : (depth : ℕ) → depth ≤ 1000 → Fits depth ts → (height + depth ≤ 1000) × Fits depth rest
+  pub fits : (depth : ℕ) → depth ≤ most_open → Fits depth ts → (height + depth ≤ most_open) × Fits depth rest
 
 -- Where so many more may be open and the tokens behind them fit, the tokens do.
 pub record Opens (height : ℕ) (ts rest : List Token) : Type 0 where
-  pub fits : (depth : ℕ) → height + depth ≤ 1000 → Fits depth rest → Fits depth ts
+  pub fits : (depth : ℕ) → height + depth ≤ most_open → Fits depth rest → Fits depth ts
 
 -- what tokens show
 pub shows_less : {a b : ℕ} {ts rest : List Token} → Shows b ts rest → a ≤ b → Shows a ts rest

@@ -2,6 +2,7 @@
 use Rattle.std.proofs.Common.{◌≡◌, ℕ, suc, ◌+◌, ◌≤◌, Bool, true, false, refl, sym, ap, subst, List, [], ◌∷◌, ◌++◌, length, arith, codes, Option, Some, None}
 use Rattle.std.specs.Prelude.{nat_le, if◌then◌else◌}
 use Rattle.std.specs.List.{flat_map}
+use Rattle.qs_lex.specs.Limits.{most_open}
 use Rattle.qs_lex.specs.declared.token.Kind.{Kind}
 use Rattle.qs_lex.specs.declared.token.Kind.TheVariants.{Opening, Closing, Comma, Plus, Slash, Equals, Stop, Word as a_word}
 use Rattle.qs_lex.specs.declared.token.Word.{Word}
@@ -25,19 +26,13 @@ use Rattle.qs_ruletext.proofs.ReadBack.{Goes, IsOne, both, turned, nothing, spac
 use Rattle.qs_ruletext.proofs.HeadsReadBack.{Closes, AreVariable, head_goes, tree_variable_goes, forest_variable_goes}
 use Rattle.qs_ruletext.proofs.Nesting.{Fits, below, height, member_height, condition_height, condition_heights, height_if_given, rule_height}
 use Rattle.qs_ruletext.proofs.NestingSteps.{behind_sort, keeps, head_keeps, Opens, opens_less, opens_none, opens_both, opens_one, opens_group}
+use Rattle.qs_ruletext.proofs.PatternsReadBack.{kids_close}
+use Rattle.qs_ruletext.proofs.RulesReadBack.{part_closes}
 
 -- a label and a variable end where further texts are behind them, each behind something before which they end
 others_close : (b : ℕ) (bs : List ℕ) → Closes (b ∷ []) → (texts : List (List ℕ)) (left : List ℕ) → Closes left → Closes (flat_map (λ t. (b ∷ bs) ++ t) texts ++ left)
 others_close b bs closes [] left c = c
 others_close b bs closes (t ∷ ts) left c = closes
-
-kids_close : (texts : List (List ℕ)) (left : List ℕ) → Closes left → Closes (kids_text texts ++ left)
-kids_close [] left c = c
-kids_close (t ∷ ts) left c = refl
-
-part_closes : (names : List (List ℕ)) (condition : Option Condition) (left : List ℕ) → Closes ((condition_part names condition ++ codes ".") ++ left)
-part_closes names None left = refl
-part_closes names (Some c) left = refl
 
 module _ (text : List ℕ) where
   -- what opens at most so many opens at most as many as any greater number
@@ -240,5 +235,5 @@ module _ (text : List ℕ) where
 -- the same in plain words: where as many more parentheses as the rule needs may be open, and what stands behind the rule
 -- fits, the rule and what stands behind it do
 pub rule_goes_fitting : (names : List (List ℕ)) (text : List ℕ) → AreOnOneLine names → (r : UnmarkedRule) → IsWellRead (length names) r → IsRuleToldIn (version_of text) r → (left : List ℕ)
-    → Goes text (λ ts rest. (depth : ℕ) → rule_height r + depth ≤ 1000 → Fits depth rest → Fits depth ts) (written names r) left
+    → Goes text (λ ts rest. (depth : ℕ) → rule_height r + depth ≤ most_open → Fits depth rest → Fits depth ts) (written names r) left
 rule_goes_fitting names text line r w told left = turned text (written names r) left (λ ts rest o. o.fits) (rule_opens text names line r w told left)

@@ -21,7 +21,7 @@ use Rattle.qs_reader.proofs.Naming.{place_of}
 abbrev IsOnOneLine : List ℕ → Type 0
 IsOnOneLine bytes = Each (λ b. not (ends_line b)) bytes
 
-label_ends_none : (b : ℕ) → is_label b ≡ true → not (ends_line b) ≡ true
+pub label_ends_none : (b : ℕ) → is_label b ≡ true → not (ends_line b) ≡ true
 label_ends_none b e = grind (arith, nat_tests)
 
 label_line : (kind : Kind) (bytes label : List ℕ) → Spells kind bytes → IsLabelText kind bytes label → IsOnOneLine label

@@ -11,6 +11,7 @@ use Rattle.qs_lex.specs.Grammar.{Sort, a_label, a_label_variable, a_tree_variabl
 use Rattle.qs_lex.specs.Expecting.{same_sort, NextIsNo}
 use Rattle.qs_lex.proofs.Expected.{same_itself, Fronts, whole_front}
 use Rattle.qs_lex.proofs.Quotes as quotes
+use Rattle.qs_lex.proofs.Predictive.{or_false_left}
 use Rattle.qs_tree.specs.Names.{AreDistinct}
 use Rattle.qs_tree.specs.declared.cell.Label.{Label}
 use Rattle.qs_pattern.specs.declared.variable.Var.{Var}
@@ -58,13 +59,9 @@ fails_not p s t holds e n = false≢true (sym n ∙ ap p e ∙ holds)
 pub one_sort : (s r : Sort) (t : Token) → same_sort s r ≡ false → IsOf s t → IsOf r t → ⊥
 one_sort s r t differ e f = false≢true (sym differ ∙ same_itself s r (sym f ∙ e))
 
-or_first : (a b : Bool) → (a || b) ≡ false → a ≡ false
-or_first true b e = e
-or_first false b e = refl
-
 pub next_weaker : (p q : Sort → Bool) (ts : List Token) → NextIsNo (λ k. p k || q k) ts → NextIsNo p ts
 next_weaker p q [] n = tt
-next_weaker p q (t ∷ ts) n = or_first (p (sort_of t.kind)) (q (sort_of t.kind)) n
+next_weaker p q (t ∷ ts) n = or_false_left (p (sort_of t.kind)) (q (sort_of t.kind)) n
 
 -- what stands behind the first token
 pub same_rest : {t u : Token} {ts us : List Token} → t ∷ ts ≡ u ∷ us → ts ≡ us

@@ -1,6 +1,5 @@
 -- Tokens are read as a rule in one way only, and as rules up to where none goes on.
-use Rattle.std.proofs.Common.{◌≡◌, ℕ, zero, suc, refl, sym, ◌∙◌, ap, subst, ◌↔◌, List, [], ◌∷◌, ◌++◌, drop, map, Option, Some}
-use Rattle.std.specs.Prelude.{slice_get}
+use Rattle.std.proofs.Common.{◌≡◌, ℕ, refl, sym, ◌∙◌, ap, subst, ◌↔◌, List, [], ◌∷◌, ◌++◌, drop, map, Option, Some}
 use Rattle.std.proofs.lemmas.List.{append_cancel_right}
 use Rattle.qs_lex.specs.declared.token.Token.{Token}
 use Rattle.qs_lex.specs.Grammar.{Sort, a_label, a_label_variable, slash, equals, stop, IsOf, Form, one, part, ◌∣◌, Begins, begins_token, begins_part, begins_first, begins_this, begins_other}
@@ -17,7 +16,8 @@ use Rattle.qs_ruletext.specs.Reading.{IsHeadOf, ReadsTree, reads_node, reads_tre
 use Rattle.qs_ruletext.specs.Rules.{ReadsCondIfGiven, no_cond, some_cond, ReadsRule, reads_rule, ReadsWrittenRule, ReadsRules, cell_bytes, NoRuleAt}
 use Rattle.qs_ruletext.specs.Endings.{NoRuleIn}
 use Rattle.qs_reader.proofs.Tokens.{label_sort}
-use Rattle.qs_ruletext.proofs.OneReading.{after_side, after_cond, fails_for, one_sort, same_rest, same_token, one_side, one_cond}
+use Rattle.qs_reader.proofs.Between.{next_at, at_next}
+use Rattle.qs_ruletext.proofs.OneReading.{after_side, after_cond, fails_for, one_sort, same_rest, one_side, one_cond}
 
 -- what is read as a rule has a first token, and that begins a rule
 abbrev FirstBegins : Form Part → List Token → Type 0
@@ -87,18 +87,6 @@ module _ (names : List (List ℕ)) (text : List ℕ) (distinct : AreDistinct nam
       let there = one_rules raws others f.0 rest end f.2 (subst (λ us. ReadsRules names text us others end) (sym here.1) g.2) none stops in
       (λ i. here.0 i ∷ there.0 i, λ i. bytes i ∷ there.1 i, there.2)
 
--- the token at a place is the first of those from the place on
-first_from : (tokens : List Token) (at : ℕ) (t : Token) → slice_get tokens at ≡ Some t → (ts : List Token) × (drop at tokens ≡ t ∷ ts)
-first_from [] at t e = absurd cc
-first_from (u ∷ us) zero t e = let same : u ≡ t = cc in (us, λ i. same i ∷ us)
-first_from (u ∷ us) (suc at) t e = first_from us at t e
-
-at_first : (tokens : List Token) (at : ℕ) (t : Token) (ts : List Token) → drop at tokens ≡ t ∷ ts → slice_get tokens at ≡ Some t
-at_first [] zero t ts e = absurd cc
-at_first [] (suc at) t ts e = absurd cc
-at_first (u ∷ us) zero t ts e = let same : u ≡ t = same_token e in ap (λ v. Some v) same
-at_first (u ∷ us) (suc at) t ts e = at_first us at t ts e
-
 pub no_rule_from : (tokens : List Token) (at : ℕ) → NoRuleAt tokens at ↔ NoRuleIn (drop at tokens)
 no_rule_from tokens at =
-    (λ none t ts e b. none t (at_first tokens at t ts e) b, λ none t e b. let f = first_from tokens at t e in none t f.0 f.1 b)
+    (λ none t ts e b. none t (next_at tokens ts at t e) b, λ none t e b. let f = at_next tokens at t e in none t f.0 f.1 b)

@@ -9,7 +9,7 @@ use Rattle.qs_pattern.specs.declared.pattern.Head.{Head}
 use Rattle.qs_pattern.specs.declared.pattern.Pattern.{Pattern, Node, Node', Tree, Forest}
 use Rattle.qs_pattern.specs.Patterns.{Patterns, no_pattern, pattern_before, patterns}
 use Rattle.qs_pattern.specs.working.Patterns.{one_pattern}
-use Rattle.qs_pattern.proofs.PatternLemmas.{pattern-Node}
+use Rattle.qs_pattern.proofs.PatternLemmas.{pattern-Node, rest_is}
 use Rattle.qs_pattern.specs.Named.{IsHeadNamed, ArePatternsNamed}
 use Rattle.qs_ruletext.specs.Texts.{joined, head_text, kids_text, pattern_texts}
 use Rattle.qs_ruletext.specs.working.Texts.{pattern_text}
@@ -64,9 +64,6 @@ text-Node names h ks p e =
     ap (pattern_texts names) (ap one_pattern e ∙ pattern-Node h ks no_pattern)
     in
     ap (λ ts. unwrap_or (slice_get ts 0) []) whole
-
-rest_is : (q : Pattern) (qs : List Pattern) → take (length (q ∷ qs) - 1) (drop 1 (q ∷ qs)) ≡ qs
-rest_is q qs = grind (arith, common_steps)
 
 -- a list with a first pattern
 pub split_first : (ps : List Pattern) (p : Pattern) → 1 ≤ length ps → p ≡ get_or ps 0 p → ps ≡ p ∷ take (length ps - 1) (drop 1 ps)

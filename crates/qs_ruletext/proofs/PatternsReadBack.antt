@@ -23,7 +23,7 @@ pluses_close : (texts : List (List ℕ)) (left : List ℕ) → Closes left → C
 pluses_close [] left c = c
 pluses_close (t ∷ ts) left c = refl
 
-kids_close : (texts : List (List ℕ)) (left : List ℕ) → Closes left → Closes (kids_text texts ++ left)
+pub kids_close : (texts : List (List ℕ)) (left : List ℕ) → Closes left → Closes (kids_text texts ++ left)
 kids_close [] left c = c
 kids_close (t ∷ ts) left c = refl
 

@@ -19,7 +19,7 @@ use Rattle.qs_ruletext.proofs.OneRules.{one_rule}
 use Rattle.qs_lex.proofs.Readings.{one_list}
 use Rattle.qs_tree.specs.Names.{AreDistinct}
 
-part_closes : (names : List (List ℕ)) (condition : Option Condition) (left : List ℕ) → Closes ((condition_part names condition ++ codes ".") ++ left)
+pub part_closes : (names : List (List ℕ)) (condition : Option Condition) (left : List ℕ) → Closes ((condition_part names condition ++ codes ".") ++ left)
 part_closes names None left = refl
 part_closes names (Some c) left = refl
 

@@ -1,5 +1,5 @@
 -- Which texts tell a condition and a rule.
-use Rattle.std.proofs.Common.{◌≡◌, ℕ, ◌≤◌, refl, sym, ap, ◌∙◌, subst, List, [], ◌∷◌, Option, Some, None, arith}
+use Rattle.std.proofs.Common.{◌≡◌, ℕ, ◌≤◌, sym, ap, ◌∙◌, subst, List, Option, Some, None, arith}
 use Rattle.std.specs.List.{All}
 use Rattle.std.proofs.lemmas.Bool.{false≢true}
 use Rattle.std.proofs.lemmas.List.Elements.{All-head, All-tail}
@@ -9,7 +9,7 @@ use Rattle.qs_lex.specs.declared.token.Kind.{Kind}
 use Rattle.qs_lex.specs.declared.token.Kind.TheVariants.{Bare, Quoted, Variable, Node, Word as a_word, Opening, Closing, Comma, Plus, Slash, Equals, Stop}
 use Rattle.qs_lex.specs.Spelling.{since, IsInVersion}
 use Rattle.qs_lex.specs.Tokens.{version_of, IsTokenOf}
-use Rattle.qs_lex.specs.Grammar.{Sort, the_word, sort_of}
+use Rattle.qs_lex.specs.Grammar.{the_word, sort_of}
 use Rattle.qs_lex.proofs.Readings.{token_stands}
 use Rattle.qs_lex.proofs.Versions.{second_version}
 use Rattle.qs_lex.proofs.Meanings.{rest_all}

@@ -7,6 +7,7 @@ use Rattle.qs_ruletext.specs.WrittenRules.{WrittenRule}
 use Rattle.qs_check.specs.declared.checking.CheckEnd.{CheckEnd}
 use Rattle.qs_check.specs.declared.checking.CheckEnd.TheVariants.{Refused, Memory}
 use Rattle.qs_check.specs.Checking.{EndsWith}
+use Rattle.qs_deck.specs.Limits.{most_systems}
 use Rattle.qs_deck.specs.WrittenDecks.{WrittenSystem, rules_of}
 
 abbrev pub AreAccepted : List WrittenRule → Type 0
@@ -28,6 +29,7 @@ IsFirstRefused raws Memory = Unit {0}
 -- there is a 257th system and this is its byte; or there is none, and a rule is refused so
 abbrev pub IsFirstFault : List WrittenSystem → CheckEnd → Type 0
 IsFirstFault systems (Refused cause at) =
-    ((system : WrittenSystem) × (slice_get systems 256 ≡ Some system) × (cause ≡ TooManySystems) × (at ≡ system.at))
-    ⊎ ((length systems ≤ 256) × IsFirstOf (rules_of systems) (Refused cause at))
+    ((system : WrittenSystem) × (slice_get systems most_systems ≡ Some system) × (cause ≡ TooManySystems)
+    × (at ≡ system.at))
+    ⊎ ((length systems ≤ most_systems) × IsFirstOf (rules_of systems) (Refused cause at))
 IsFirstFault systems Memory = Unit {0}

@@ -6,10 +6,11 @@ use Rattle.std.specs.List.{All, filter, flat_map}
 use Rattle.qs_lex.specs.declared.refusal.Cause.TheVariants.{TooManyArcs}
 use Rattle.qs_tree.specs.declared.cell.Label.{Label}
 use Rattle.qs_reader.specs.Names.{AddsName}
+use Rattle.qs_deck.specs.Limits.{most_words}
 use Rattle.qs_deck.specs.declared.fault.FaultEnd.{FaultEnd}
 use Rattle.qs_deck.specs.declared.fault.FaultEnd.TheVariants.{Fault, Memory}
 use Rattle.qs_deck.specs.Segments.{Segment, segments_from}
-use Rattle.qs_deck.specs.PhraseTexts.{is_blank, has_bytes, words_of, most_words, IsShort, lines_with_words, AddsWords}
+use Rattle.qs_deck.specs.PhraseTexts.{is_blank, has_bytes, words_of, IsShort, lines_with_words, AddsWords}
 use Rattle.qs_deck.specs.PhraseTexts.{named_by, written_in}
 
 -- the ends of these lines, behind so many words

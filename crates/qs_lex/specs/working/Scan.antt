@@ -8,6 +8,7 @@ use Rattle.std.specs.Char.{is_ascii_digit}
 use Rattle.qs_lex.specs.Characters.{quote, star, dash, is_label, is_variable_letter, ends_line}
 use Rattle.qs_lex.specs.working.Characters.{is_capital_or_digit}
 use Rattle.qs_lex.specs.Spelling.{name_of, since}
+use Rattle.qs_lex.specs.Limits.{most_variable_number, most_node_number}
 use Rattle.qs_lex.specs.declared.token.Word.{Word}
 use Rattle.qs_lex.specs.declared.token.Word.TheVariants.{Systeme, Graphe, Fin, Dans, Hors, Et, Ou, Non, Version, Egal}
 use Rattle.qs_lex.specs.declared.token.Word.TheVariants.{Unique}
@@ -52,7 +53,7 @@ numbered letter len None = Err BadVariable
 
 abbrev pub with_digits : ℕ → List ℕ → Found
 with_digits letter [] = Ok (Variable letter 0, 2)
-with_digits letter (d ∷ ds) = numbered letter (length (d ∷ ds) + 2) (number_after 99 0 (d ∷ ds))
+with_digits letter (d ∷ ds) = numbered letter (length (d ∷ ds) + 2) (number_after most_variable_number 0 (d ∷ ds))
 
 -- the variable with this run before its '*' and these bytes behind it
 abbrev pub variable_of : List ℕ → List ℕ → Found
@@ -75,7 +76,7 @@ node_of len None = Err BadWord
 
 abbrev pub named : List ℕ → Option Word → Found
 named name (Some word) = Ok (a_word word, length name + 2)
-named name None = node_of (length name + 2) (number_after 999999999 0 name)
+named name None = node_of (length name + 2) (number_after most_node_number 0 name)
 
 -- a node mark or a word, behind its first dash, in a text of this version
 abbrev pub mark_at : ℕ → List ℕ → Found

@@ -18,8 +18,8 @@ loop-place-preserved-in_default c =
       few = c.loop-place.invariant.few;
     }
 
-pub returns-then-len-eq32 : goal.returns-then-len-eq32
-returns-then-len-eq32 c =
+pub returns-then-len-eq-MOST_VARIABLES : goal.returns-then-len-eq-MOST_VARIABLES
+returns-then-len-eq-MOST_VARIABLES c =
     let seen = c.deref.ensures.value ∙ c.loop-place.invariant.seen in
     let before = variables_among (take c.loop-place.place c.args.cells.now) in
     let long : length (firsts before) ≡ length c.loop-place.seen.items = ap length (sym c.loop-place.invariant.seen) in
@@ -27,7 +27,7 @@ returns-then-len-eq32 c =
       var = c.in-Some.var;
       at = at_place c.args.cells.now c.loop-place.place c.index-cells-place.result c.loop-place-test.true c.index-cells-place.is ∙ ap (λ h. Some h) c.in-Some.ensures.0;
       new = λ i. c.in-Some.ensures.1 (subst (λ (vs : List Var). c.in-Some.var ∈ vs) (sym seen) (in_firsts before c.in-Some.var i));
-      before = omega (arith, long, c.loop-place.seen.ok.0, c.len.ensures, c.if-len-eq32.true);
+      before = omega (arith, long, c.loop-place.seen.ok.0, c.len.ensures, c.if-len-eq-MOST_VARIABLES.true);
     }
 
 pub loop-place-preserved : goal.loop-place-preserved
@@ -40,5 +40,5 @@ loop-place-preserved c =
           ∙ ap (λ vs. vs ++ v ∷ []) c.loop-place.invariant.seen
           ∙ sym (firsts_new c.args.cells.now c.loop-place.place c.index-cells-place.result c.loop-place-test.true c.index-cells-place.is v c.in-Some.ensures.0
           (λ i. c.in-Some.ensures.1 (subst (λ (vs : List Var). v ∈ vs) (sym seen) i)));
-      few = omega (arith, longer, length-append c.loop-place.seen.items (v ∷ []), c.loop-place.invariant.few, c.loop-place.seen.ok.0, c.len.ensures, c.if-len-eq32.false);
+      few = omega (arith, longer, length-append c.loop-place.seen.items (v ∷ []), c.loop-place.invariant.few, c.loop-place.seen.ok.0, c.len.ensures, c.if-len-eq-MOST_VARIABLES.false);
     }

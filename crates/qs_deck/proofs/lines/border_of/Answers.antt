@@ -1,4 +1,4 @@
-use Rattle.std.proofs.Common.{◌∙◌, ◌+◌, ◌≤◌, ◌≡◌, refl, sym, ap, subst, arith, length, cond, not, true, false, Some}
+use Rattle.std.proofs.Common.{◌∙◌, ◌+◌, ◌≤◌, ◌≡◌, refl, sym, ap, subst, arith, length, cond, not, Some}
 use Rattle.std.specs.List.{prefix_len}
 use Rattle.std.specs.Prelude.{◌==◌}
 use Rattle.qs_lex.specs.Characters.{line_feed}

@@ -1,8 +1,6 @@
 use Rattle.std.proofs.Common.{◌≡◌, ◌+◌, ◌-◌, ◌≤◌, ◌∙◌, Vec, Global, refl, sym, ap, subst, arith, length, drop, take, not, List, ℕ}
 use Rattle.std.specs.List.{prefix_len}
-use Rattle.std.specs.Prelude.{IsCharBoundary}
 use Rattle.qs_tree.specs.declared.cell.Label.{Label}
-use Rattle.qs_tree.specs.declared.names.Names.{Names}
 use Rattle.qs_deck.specs.PhraseTexts.{is_blank}
 use Rattle.qs_deck.specs.working.Phrases.{AddsWord, ReadsWordsTo}
 use Rattle.qs_deck.proofs.Cutting.{end_border, segment_within, seen}

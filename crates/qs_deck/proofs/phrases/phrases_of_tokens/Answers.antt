@@ -1,7 +1,6 @@
-use Rattle.std.proofs.Common.{map, length, sym, ◌∙◌, subst, arith, ap}
+use Rattle.std.proofs.Common.{map, length, sym, ◌∙◌, arith, ap}
 use Rattle.qs_deck.specs.Decks.{grammar_of}
-use Rattle.qs_deck.specs.GrammarLists.{AreGrammarsOf}
-use Rattle.qs_deck.specs.PhraseTexts.{grammar_part, lines_behind, words_of, lines_with_words}
+use Rattle.qs_deck.specs.PhraseTexts.{lines_behind, words_of, lines_with_words}
 use Rattle.std.specs.List.{flat_map}
 use Rattle.qs_deck.specs.working.Answers.{IsEndOfPhrases}
 use Rattle.qs_reader.proofs.Steps.{hands_on}

@@ -1,3 +1,4 @@
+use Rattle.qs_graph.specs.Limits.{most_read_arcs}
 use Rattle.qs_graphtext.specs.WrittenChains.{WrittenChain}
 use Rattle.std.proofs.Common.{◌≡◌, ◌<◌, Some, ap, sym, ◌∙◌, length, slice_get, arith}
 use Rattle.std.proofs.lemmas.Option.{slice_get-get_or}
@@ -23,5 +24,5 @@ returns-then-trees-room-clause-some c =
     ap (λ ns. slice_get ns c.loop-chain.room) (sym places)
     ∙ slice_get-get_or c.chain.inside.at.items c.loop-chain.room c.index.result.now (omega (arith, low, whole.places, ap length places)) ∙ ap Some (sym c.index.ensures) in (
       omega (arith, so_far, c.loop-chain.invariant, low),
-      place_at c.args.chains.now c.requires c.loop-chain.chain-index c.chain-item.result c.loop-chain.room 65536 c.index.result.now c.loop-chain-test.true c.chain-item.is (omega (arith, c.loop-chain.invariant)) place,
+      place_at c.args.chains.now c.requires c.loop-chain.chain-index c.chain-item.result c.loop-chain.room most_read_arcs c.index.result.now c.loop-chain-test.true c.chain-item.is (omega (arith, c.loop-chain.invariant)) place,
     )

@@ -1,5 +1,6 @@
 use Rattle.std.proofs.Common.{◌≡◌, ◌≤◌, [], length, sym, subst, ap, ◌∙◌, arith}
 use Rattle.std.specs.List.Sorted.{IsStrictlyIncreasing}
+use Rattle.qs_graph.specs.Limits.{most_read_arcs}
 use Rattle.qs_graph.specs.Graphs.{QGraph}
 use Rattle.qs_graph.specs.Validity.{LeadsInside}
 use Rattle.qs_graphtext.specs.GraphOfChains.{trees_in, numbers_in, with_chains, AreFew, AreRefused}
@@ -10,7 +11,7 @@ use Rattle.qs_graphtext.proofs.making.graph_of.Goals as goal
 
 pub lay-requires-clause-few : goal.lay-requires-clause-few
 lay-requires-clause-few c =
-    let few : length (trees_in c.args.chains.items) ≤ 65536 = subst AreFew c.deref.ensures.value c.in_default.ensures.none in
+    let few : length (trees_in c.args.chains.items) ≤ most_read_arcs = subst AreFew c.deref.ensures.value c.in_default.ensures.none in
     let numbers = numbers_few c.args.chains.items c.requires.whole in
     let same = ap (λ chains. length (numbers_in chains)) c.deref-2.ensures.value in
     omega (arith, few, numbers, same, c.in_ok-nodes.ensures.few, ap length c.deref-3.ensures.value)
@@ -24,7 +25,7 @@ new-requires-clause-some c =
 
 pub new-requires-clause-few : goal.new-requires-clause-few
 new-requires-clause-few c =
-    let few : length (trees_in c.args.chains.items) ≤ 65536 = subst AreFew c.deref.ensures.value c.in_default.ensures.none in
+    let few : length (trees_in c.args.chains.items) ≤ most_read_arcs = subst AreFew c.deref.ensures.value c.in_default.ensures.none in
     let arcs : length c.in_ok-laid.laid.edges.items ≡ length (with_chains (number_by c.deref-3.result.now) (record { nodes = length c.deref-3.result.now; arcs = [] }) c.args.chains.items).arcs =
     ap (λ (G : QGraph). length G.arcs) c.in_ok-laid.ensures in
     omega (arith, few, arcs, arcs_laid (number_by c.deref-3.result.now) (record { nodes = length c.deref-3.result.now; arcs = [] }) c.args.chains.items)

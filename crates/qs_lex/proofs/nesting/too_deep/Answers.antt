@@ -1,5 +1,6 @@
 use Rattle.std.proofs.Common.{◌≡◌, ◌+◌, ◌≤◌, take, sym, ap, ◌∙◌, ⊎_elim, below_more, arith}
 use Rattle.std.proofs.lemmas.Bool.{cases_lt}
+use Rattle.qs_lex.specs.Limits.{most_open}
 use Rattle.qs_lex.specs.Nesting.{open_behind, open_count, IsTooDeep}
 use Rattle.qs_lex.proofs.OpenParentheses.{open_behind_other, open_count_more, too_deep_at, shallow, past_end}
 use Rattle.qs_lex.proofs.nesting.too_deep.Goals as goal
@@ -18,7 +19,7 @@ counted c =
       | in_default w ↦ open_count_more c.args.tokens.now c.loop-i.i c.loop-i.open _ (omega arith) c.loop-i.invariant.counted ∙ open_behind_other c.loop-i.open _ w.in_default.not-Opening w.in_default.not-Closing ∙ sym w.open-is
     ]
 
-few : (c : Joined-token) → c.match-token.open ≤ 1000
+few : (c : Joined-token) → c.match-token.open ≤ most_open
 few c =
     elim c.match-token.branch [ in-Opening+else-open-gt-MOST_OPEN w ↦ omega arith | in-Closing w ↦ omega arith | in_default w ↦ omega arith ]
 

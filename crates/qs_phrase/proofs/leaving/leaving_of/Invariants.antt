@@ -1,4 +1,4 @@
-use Rattle.std.proofs.Common.{◌≡◌, ◌≤◌, length}
+use Rattle.std.proofs.Common.{◌≤◌, length}
 use Rattle.qs_phrase.specs.working.Leaving.{IsIndex}
 use Rattle.qs_phrase.proofs.leaving.leaving_of.Given as goal
 

@@ -1,4 +1,4 @@
-use Rattle.std.proofs.Common.{◌≡◌, ◌++◌, ◌∷◌, [], ◌∙◌, refl, length, map, sym, ap, subst, arith, true, ℕ, List, Vec, Global}
+use Rattle.std.proofs.Common.{◌≡◌, ◌++◌, ◌∷◌, [], ◌∙◌, length, map, sym, ap, subst, arith, true, ℕ, List, Vec, Global}
 use Rattle.std.proofs.lemmas.List.{map_push, length_push, length-map}
 use Rattle.qs_tree.proofs.Decisions.{true_false}
 use Rattle.qs_phrase.specs.working.Walking.{GoesOn}

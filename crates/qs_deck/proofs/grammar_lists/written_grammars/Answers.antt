@@ -6,7 +6,7 @@ use Rattle.qs_deck.specs.Grammar.{grammars}
 use Rattle.qs_reader.specs.Names.{NamesGrow}
 use Rattle.qs_deck.specs.working.Versions.{AreReadAs, EndsIn}
 use Rattle.qs_deck.proofs.Borders.{few_tokens}
-use Rattle.qs_deck.proofs.grammar_lists.written.Goals as goal
+use Rattle.qs_deck.proofs.grammar_lists.written_grammars.Goals as goal
 
 pub read_grammars-requires-clause-room : goal.read_grammars-requires-clause-room
 read_grammars-requires-clause-room c =

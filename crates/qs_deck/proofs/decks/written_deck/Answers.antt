@@ -4,7 +4,7 @@ use Rattle.qs_deck.specs.Refusals.{byte_of, IsFault, syntax}
 use Rattle.qs_reader.specs.Names.{NamesGrow}
 use Rattle.qs_deck.specs.working.Versions.{IsReadAs, EndsAt}
 use Rattle.qs_deck.proofs.Borders.{few_tokens}
-use Rattle.qs_deck.proofs.decks.written.Goals as goal
+use Rattle.qs_deck.proofs.decks.written_deck.Goals as goal
 
 pub read_written-requires-clause-room : goal.read_written-requires-clause-room
 read_written-requires-clause-room c =
