@@ -17,14 +17,14 @@ in_more (z ∷ xs) x zero y e = inl e
 in_more (z ∷ xs) x (suc k) y e = ⊎_elim inl (λ (p, q). inr (ap suc p, q)) (in_more xs x k y e)
 
 -- where the number is put behind the list, that is its last place
-last_here : (ns : List ℕ) (n : ℕ) → IsLastPlace (ns ++ n ∷ []) n (Some (length ns))
+pub last_here : (ns : List ℕ) (n : ℕ) → IsLastPlace (ns ++ n ∷ []) n (Some (length ns))
 last_here ns n = (
   at_seam ns n [],
   λ j e. ⊎_elim (λ h. let l = slice_get_within ns j n h in omega arith) (λ (p, q). omega arith) (in_more ns n j n e),
 )
 
 -- and each other number keeps its own
-last_kept : (ns : List ℕ) (n m : ℕ) → n ≢ m → (o : Option ℕ) → IsLastPlace ns m o → IsLastPlace (ns ++ n ∷ []) m o
+pub last_kept : (ns : List ℕ) (n m : ℕ) → n ≢ m → (o : Option ℕ) → IsLastPlace ns m o → IsLastPlace (ns ++ n ∷ []) m o
 last_kept ns n m apart None x = λ k e. ⊎_elim (λ h. x k h) (λ (p, q). apart (sym q)) (in_more ns n k m e)
 last_kept ns n m apart (Some k) x = (
   slice_get-append ns (n ∷ []) k m x.0,
@@ -40,7 +40,7 @@ last_left ns n m apart (Some k) x = (
 )
 
 -- a test of numbers, by its answer
-by_answer : (n m : ℕ) → ((n ≡ m) × (nat_eq n m ≡ true)) ⊎ ((n ≢ m) × (nat_eq n m ≡ false))
+pub by_answer : (n m : ℕ) → ((n ≡ m) × (nat_eq n m ≡ true)) ⊎ ((n ≢ m) × (nat_eq n m ≡ false))
 by_answer n m = by (nat_eq n m) refl
   where
     by : (b : Bool) → nat_eq n m ≡ b → ((n ≡ m) × (nat_eq n m ≡ true)) ⊎ ((n ≢ m) × (nat_eq n m ≡ false))

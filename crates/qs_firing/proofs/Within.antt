@@ -40,7 +40,7 @@ pub leads_stays : {G H : QGraph} → IsWithin G H → (a : ℕ) (ks : List ℕ) 
 leads_stays w a [] b e = e
 leads_stays w a (k ∷ ks) b (arc, is, e, l) = (arc, arc_stays w k arc is, e, leads_stays w arc.to ks b l)
 
-trees_from : (arcs : List Arc) (k : ℕ) (ks : List ℕ) (arc : Arc) → slice_get arcs k ≡ Some arc → trees_on arcs (k ∷ ks) ≡ arc.tree ∷ trees_on arcs ks
+pub trees_from : (arcs : List Arc) (k : ℕ) (ks : List ℕ) (arc : Arc) → slice_get arcs k ≡ Some arc → trees_on arcs (k ∷ ks) ≡ arc.tree ∷ trees_on arcs ks
 trees_from arcs k ks arc is = ap (λ o. map (λ (arc : Arc). arc.tree) (cons_option o (arcs_at arcs ks))) is
 
 pub trees_stay : {G H : QGraph} → IsWithin G H → (a : ℕ) (ks : List ℕ) (b : ℕ) → Leads G.arcs a ks b → trees_on G.arcs ks ≡ trees_on H.arcs ks

@@ -1,8 +1,8 @@
 -- The work of an arc: each firing is in the work of one arc, later arcs never change it, and each arc has its work.
 use Rattle.std.proofs.Common.{◌≡◌, ◌↔◌, ℕ, zero, suc, ◌<◌, ◌≤◌, List, [], ◌∷◌, ◌++◌, length, take, drop, refl, sym, ◌∙◌, ap, subst, inl, inr, ⊎_elim, arith, slice_get}
-use Rattle.std.proofs.lemmas.Option.{slice_get_within}
 use Rattle.std.proofs.lemmas.List.{take-append-le, take-append-drop}
 use Rattle.std.proofs.lemmas.Bool.{cases_lt}
+use Rattle.qs_tree.proofs.Elements.{slice_get-take}
 use Rattle.qs_tree.specs.Lists.{◌∈◌}
 use Rattle.qs_tree.proofs.Decisions.{decide_number, decide_at_most, decide_member}
 use Rattle.qs_pattern.specs.Rules.{Rule, AreLeftSidesInClass}
@@ -15,23 +15,13 @@ use Rattle.qs_firing.proofs.Ascending.{same_ascending}
 use Rattle.qs_firing.proofs.FiringDecisions.{decide_fires}
 use Rattle.qs_firing.proofs.Choosing.{firings_with, with-ascends, from_with, in_with}
 use Rattle.qs_firing.proofs.Within.{IsWithin, fires_stays, trees_stay}
+use Rattle.qs_graph.proofs.Paths.{leads_low}
 
 abbrev of_arcs : List Arc → QGraph
 of_arcs arcs = record { nodes = 0; arcs = arcs }
 
 front_within : (n : ℕ) (arcs : List Arc) → IsWithin (of_arcs (take n arcs)) (of_arcs arcs)
 front_within n arcs = record { more = drop n arcs; arcs = sym (take-append-drop n arcs); nodes = omega arith }
-
-leads_low : (arcs : List Arc) (a : ℕ) (ks : List ℕ) (b : ℕ) → Leads arcs a ks b → (k : ℕ) → k ∈ ks → k < length arcs
-leads_low arcs a [] b l k i = absurd i
-leads_low arcs a (m ∷ ks) b (arc, is, e, l) k (inl same) = omega (arith, slice_get_within arcs m arc is)
-leads_low arcs a (m ∷ ks) b (arc, is, e, l) k (inr i) = leads_low arcs arc.to ks b l k i
-
-slice_get-take : {X : Type 0} (n : ℕ) (xs : List X) (k : ℕ) → k < n → slice_get (take n xs) k ≡ slice_get xs k
-slice_get-take zero xs k h = absurd (omega arith)
-slice_get-take (suc n) [] k h = refl
-slice_get-take (suc n) (x ∷ xs) zero h = refl
-slice_get-take (suc n) (x ∷ xs) (suc k) h = slice_get-take n xs k (omega arith)
 
 leads_front : (n : ℕ) (arcs : List Arc) (a : ℕ) (ks : List ℕ) (b : ℕ) → ((k : ℕ) → k ∈ ks → k < n) → Leads arcs a ks b → Leads (take n arcs) a ks b
 leads_front n arcs a [] b low l = l

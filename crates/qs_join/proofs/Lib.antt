@@ -4,6 +4,7 @@ pub mod Paths
 pub mod Matching
 pub mod Listing
 pub mod Roots
+pub mod Below
 pub mod Arcs
 pub mod Work
 pub mod Sorting

@@ -2,6 +2,7 @@
 use Rattle.std.proofs.Common.{◌≡◌, ℕ, ◌-◌, ◌<◌, ◌≤◌, inl, inr, ⊎_elim, List, [], ◌∷◌, ◌++◌, length, Some, slice_get, refl, sym, ap, ◌∙◌, subst, arith, append_assoc, append-nil, length-append}
 use Rattle.std.specs.Option.{option_map}
 use Rattle.std.proofs.lemmas.Option.{slice_get-map}
+use Rattle.std.proofs.lemmas.List.{nil_from_length}
 use Rattle.qs_tree.specs.Lists.{◌∈◌}
 use Rattle.qs_tree.proofs.Members.{from_append}
 use Rattle.qs_pattern.specs.Patterns.{count}
@@ -25,10 +26,6 @@ split_last (x ∷ []) h = ([], x, refl, refl)
 split_last (x ∷ z ∷ xs) h =
     let (ys, y, e, l) = split_last (z ∷ xs) (omega arith) in
     (x ∷ ys, y, ap (λ zs. x ∷ zs) e, omega arith)
-
-empty : {X : Type 0} (xs : List X) → length xs ≡ 0 → xs ≡ []
-empty [] e = refl
-empty (x ∷ xs) e = absurd (omega arith)
 
 first_of : {X : Type 0} (xs : List X) → 0 < length xs → (x : X) × (more : List X) × (xs ≡ x ∷ more)
 first_of [] h = absurd (omega arith)
@@ -174,7 +171,7 @@ module _ (number : ℕ) (rule : Rule) (arcs : List Arc) (m : ℕ) where
   pub refused_right : (path : List ℕ) (k : ℕ) → ((f : Firing) → FiresBy number rule arcs f → AreUpTo m f.path → slice_get f.path (length path) ≡ Some k → ⊥)
       → (f : Firing) → Through number rule arcs m 0 (path ++ k ∷ []) f → ⊥
   refused_right path k never f t =
-      let none = empty t.front t.long in
+      let none = nil_from_length t.front t.long in
       let whole : f.path ≡ path ++ (k ∷ t.rest) = t.path_is ∙ ap (λ ks. ks ++ ((path ++ k ∷ []) ++ t.rest)) none ∙ append_assoc path (k ∷ []) t.rest in
       never f t.by t.few (ap (λ ks. slice_get ks (length path)) whole ∙ at_seam path k t.rest)
 
@@ -182,8 +179,8 @@ module _ (number : ℕ) (rule : Rule) (arcs : List Arc) (m : ℕ) where
   whole_path : (path : List ℕ) → length path ≡ count rule.left → (f : Firing) → Through number rule arcs m 0 path f → f.path ≡ path
   whole_path path h f t =
       let all = ap (λ (ks : List ℕ). length ks) t.path_is in
-      let none = empty t.front t.long in
-      let nothing = empty t.rest (omega (arith, all, t.by.long, length-append t.front (path ++ t.rest), length-append path t.rest)) in
+      let none = nil_from_length t.front t.long in
+      let nothing = nil_from_length t.rest (omega (arith, all, t.by.long, length-append t.front (path ++ t.rest), length-append path t.rest)) in
       t.path_is ∙ ap (λ ks. ks ++ (path ++ t.rest)) none ∙ ap (λ ks. path ++ ks) nothing ∙ append-nil path
 
   -- the firings of all matches on it are those through it

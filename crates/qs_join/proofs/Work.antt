@@ -1,19 +1,23 @@
 -- The firings through one of the listed places are the work of an arc.
-use Rattle.std.proofs.Common.{◌≡◌, ℕ, ◌⊎◌, inl, inr, ⊎_elim, List, [], ◌∷◌, ◌++◌, length, Some, None, slice_get, refl, sym, ap, ◌∙◌, subst}
+use Rattle.std.proofs.Common.{◌≡◌, ℕ, ◌⊎◌, inl, inr, ⊎_elim, List, [], ◌∷◌, ◌++◌, length, Option, Some, None, slice_get, refl, sym, ap, ◌∙◌, subst}
 use Rattle.qs_tree.specs.Lists.{◌∈◌}
 use Rattle.qs_tree.proofs.Members.{in_append_left, in_append_right, from_append, in_at}
-use Rattle.qs_pattern.specs.Instances.{IsMatch}
+use Rattle.qs_tree.specs.declared.cell.Label.{Label}
+use Rattle.qs_tree.specs.Trees.{kids}
+use Rattle.qs_pattern.specs.Instances.{IsMatch, inst}
 use Rattle.qs_pattern.proofs.MatchLemmas.{matched_value}
-use Rattle.qs_pattern.specs.Rules.{Rule, IsAccepted}
+use Rattle.qs_pattern.specs.Rules.{Rule}
 use Rattle.qs_graph.specs.Graphs.{Arc, Leads, trees_on}
 use Rattle.qs_firing.specs.Firings.{Firing}
 use Rattle.qs_firing.specs.Work.{IsWorkOf}
-use Rattle.qs_join.specs.Heads.{exact, wild}
+use Rattle.qs_join.specs.declared.heads.Heads.{Heads}
+use Rattle.qs_join.specs.Heads.{wild, below_of, IsPlace, IsAsking, AreHeadsOf}
+use Rattle.qs_join.specs.working.Listing.{first_root_of, narrow_of}
 use Rattle.qs_join.specs.working.Searching.{FiresBy, AreUpTo, Through, ThroughPlace, ThroughOne, Finds}
 use Rattle.qs_join.specs.working.Sorting.{AreOfArc}
 use Rattle.qs_join.proofs.Finding.{finds_same, finds_both}
 use Rattle.qs_join.proofs.Listing.{is_listed}
-use Rattle.qs_join.proofs.Roots.{AsksFor, asked_at, tree_on}
+use Rattle.qs_join.proofs.Roots.{AsksFor, asked_at, first_at, tree_on}
 use Rattle.qs_join.proofs.Arcs.{leads_within, leads_beyond, trees_within}
 
 -- ---- one place after the other
@@ -64,8 +68,19 @@ module _ (R : List Rule) (arcs : List Arc) (m : ℕ) where
   parts (k ∷ ks) (inl e) = ([], ks, ap (λ j. j ∷ ks) (sym e))
   parts (k ∷ ks) (inr i) = let (front, rest, e) = parts ks i in (k ∷ front, rest, ap (λ js. k ∷ js) e)
 
-  module _ (accepted : (rule : Rule) → rule ∈ R → IsAccepted rule) (arc : Arc) (at : slice_get arcs m ≡ Some arc) where
-    to_place : (f : Firing) → IsWorkOf R arcs m f → ThroughOne R arcs m (exact R arc.tree.root) f ⊎ ThroughOne R arcs m (wild R) f
+  module _ (heads : Heads) (are : AreHeadsOf R heads) (arc : Arc) (at : slice_get arcs m ≡ Some arc) where
+    abbrev first : Option Label
+    first = first_root_of (kids arc.tree)
+
+    -- a place that asks for the arc's root is listed unless it asks for another root of the first subtree
+    is_below : (pair : ℕ × ℕ) (a : Option Label) → IsAsking R arc.tree.root a pair → (a ≡ None) ⊎ (a ≡ first)
+        → (pair ∈ narrow_of heads arc.tree.root first) ⊎ (pair ∈ below_of heads arc.tree.root None)
+    is_below pair None asks e = inr (are.asking arc.tree.root None pair asks)
+    is_below pair (Some k) asks (inl e) = absurd cc
+    is_below pair (Some k) asks (inr e) = inl (subst (λ o. pair ∈ narrow_of heads arc.tree.root o) e (are.asking arc.tree.root (Some k) pair asks))
+
+    to_place : (f : Firing) → IsWorkOf R arcs m f
+        → (ThroughOne R arcs m (narrow_of heads arc.tree.root first) f ⊎ ThroughOne R arcs m (below_of heads arc.tree.root None) f) ⊎ ThroughOne R arcs m (wild R) f
     to_place f w =
         let r = w.fires in
         let few : AreUpTo m f.path = w.greatest.at_most in
@@ -78,27 +93,41 @@ module _ (R : List Rule) (arcs : List Arc) (m : ℕ) where
           is_rule = r.is_rule;
           through = record { by = by; few = few; front = front; long = refl; rest = rest; path_is = e };
         } in
-        let ok = accepted r.rule (in_at R f.rule r.rule r.is_rule) in
+        let ok = are.accepted r.rule (in_at R f.rule r.rule r.is_rule) in
         let tree : slice_get (trees_on arcs f.path) (length front) ≡ Some arc.tree =
         ap (λ ks. slice_get (trees_on arcs ks) (length front)) e ∙ tree_on arcs r.from r.to front m rest arc (subst (λ (ks : List ℕ). Leads arcs r.from ks r.to) e leads) at in
-        let asks : AsksFor r.rule.left (length front) arc.tree =
-        asked_at f.values r.rule.left ok.left.in_class ok.left.no_forest_at_top (matched_value r.rule.left (trees_on arcs f.path) f.values matches) (length front) arc.tree
-        (ap (λ ts. slice_get ts (length front)) matches.instance ∙ tree) in
+        let stands : slice_get (inst f.values r.rule.left) (length front) ≡ Some arc.tree = ap (λ ts. slice_get ts (length front)) matches.instance ∙ tree in
+        let has = matched_value r.rule.left (trees_on arcs f.path) f.values matches in
+        let asks : AsksFor r.rule.left (length front) arc.tree = asked_at f.values r.rule.left ok.left.in_class ok.left.no_forest_at_top has (length front) arc.tree stands in
+        let (a, below, is) = first_at f.values r.rule.left ok.left.in_class ok.left.no_forest_at_top has (length front) arc.tree stands in
         ⊎_elim
         (λ n. inr (record { pair = (f.rule, length front); among = is_listed None R f.rule (length front) r.rule r.is_rule n; through = t }))
-        (λ n. inl (record { pair = (f.rule, length front); among = is_listed (Some arc.tree.root) R f.rule (length front) r.rule r.is_rule n; through = t }))
+        (λ n. inl (⊎_elim
+        (λ i. inl (record { pair = (f.rule, length front); among = i; through = t }))
+        (λ i. inr (record { pair = (f.rule, length front); among = i; through = t }))
+        (is_below (f.rule, length front) a (r.rule, r.is_rule, n, below) is)))
         asks
 
-    -- all firings through the places that the arc's root allows are its work
-    pub are_of_arc : (pairs more : List (ℕ × ℕ)) (fs gs : List Firing) → pairs ≡ exact R arc.tree.root → more ≡ wild R
-        → Finds (ThroughOne R arcs m pairs) [] fs → Finds (ThroughOne R arcs m more) fs gs → AreOfArc R arcs m gs
-    are_of_arc pairs more fs gs e d x y =
-        let all : Finds (IsWorkOf R arcs m) [] gs = finds_both
-        (λ f t. of_place t.pair f t.through)
+    -- all firings through the places that the arc's root and its first subtree's allow are its work
+    pub are_of_arc : (pairs more last : List (ℕ × ℕ)) (fs gs hs : List Firing) → pairs ≡ narrow_of heads arc.tree.root (first_root_of (kids arc.tree)) → more ≡ below_of heads arc.tree.root None → last ≡ wild R
+        → Finds (ThroughOne R arcs m pairs) [] fs → Finds (ThroughOne R arcs m more) fs gs → Finds (ThroughOne R arcs m last) gs hs → AreOfArc R arcs m hs
+    are_of_arc pairs more last fs gs hs e d c x y z =
+        let exact : Finds (λ f. ThroughOne R arcs m (narrow_of heads arc.tree.root first) f ⊎ ThroughOne R arcs m (below_of heads arc.tree.root None) f) [] gs = finds_both
+        (λ f t. inl t)
+        (λ f t. inr t)
+        (λ f t. t)
+        (subst (λ ps. Finds (ThroughOne R arcs m ps) [] fs) e x) (subst (λ ps. Finds (ThroughOne R arcs m ps) fs gs) d y) in
+        let all : Finds (IsWorkOf R arcs m) [] hs = finds_both
+        (λ f t. ⊎_elim (λ u. of_place u.pair f u.through) (λ u. of_place u.pair f u.through) t)
         (λ f t. of_place t.pair f t.through)
         (λ f w. to_place f w)
-        (subst (λ ps. Finds (ThroughOne R arcs m ps) [] fs) e x) (subst (λ ps. Finds (ThroughOne R arcs m ps) fs gs) d y) in
+        exact (subst (λ ps. Finds (ThroughOne R arcs m ps) gs hs) c z) in
         record {
           sound = λ f i. all.sound f (subst (λ xs. f ∈ xs) all.are i);
           all = λ f w. subst (λ xs. f ∈ xs) (sym all.are) (all.all f w);
         }
+
+-- what is listed for two roots are places
+pub narrow_places : (R : List Rule) (heads : Heads) → AreHeadsOf R heads → (l : Label) (first : Option Label) (pair : ℕ × ℕ) → pair ∈ narrow_of heads l first → IsPlace R pair
+narrow_places R heads are l None pair i = absurd i
+narrow_places R heads are l (Some k) pair i = are.places l (Some k) pair i

@@ -3,20 +3,25 @@
 ghost use Rattle.std.specs.Prelude.{◌≡◌, ◌↔◌, ◌<◌, [], List, length, map, OnOk, IfOk, IsTrue};
 ghost use Rattle.std.specs.Arc.{arc_value};
 ghost use Rattle.qs_tree.specs.Lists.{◌∈◌};
+ghost use Rattle.qs_tree.specs.Trees.{kids};
+ghost use Rattle.qs_tree.specs.Cells.{tree_of};
+ghost use Rattle.qs_pattern.specs.Patterns.{patterns, NoForestAtTop};
+ghost use Rattle.qs_pattern.specs.Instances.{inst, IsCovered};
 ghost use Rattle.qs_pattern.specs.Rules.{AreLeftSidesInClass};
 ghost use Rattle.qs_graph.specs.Graphs.{Arc as ArcOfGraph};
 ghost use Rattle.qs_firing.specs.Firings.{Firing as FiringOfRule, Fires};
 ghost use Rattle.qs_firing.specs.Adding.{built};
 ghost use Rattle.qs_firing.specs.Work.{IsRightFor};
 ghost use Rattle.qs_join.specs.Heads.{AreHeadsOf};
+ghost use Rattle.qs_join.specs.working.Listing.{first_root_of};
 ghost use Rattle.qs_join.specs.working.Searching.{ArePlaces, ThroughOne, Finds};
 ghost use Rattle.qs_join.specs.working.Sorting.{NeverFalls, AreOfArc, Repeats, AreMade};
 
 use crate::heads::Heads;
 use crate::search::{Search, find_at};
 use qs_firing::{Firing, Joined, Made, View, order};
-use qs_pattern::{Rule, instance};
-use qs_tree::{Tree, TreeRef};
+use qs_pattern::{Pattern, Rule, Subst, one_instance};
+use qs_tree::{Label, Tree, TreeRef};
 use std::alloc::{AllocError, Global};
 use std::cmp::Ordering;
 use std::sync::Arc;
@@ -52,6 +57,16 @@ fn find_all<'a>(
     Ok(())
 }
 
+// The root of a tree's first subtree. None where it has no subtree.
+fn first_root(tree: TreeRef<'_>) -> Option<Label>
+    ensures { result ≡ first_root_of (kids (tree_of tree.entry.cells.now)) }
+{
+    match tree.kids().first_rest() {
+        Some((first, _)) => Some(first.root()),
+        None => None,
+    }
+}
+
 // The firings whose greatest arc is the newest one, in the order in which they are found.
 fn found_of(
     alloc: Global,
@@ -67,13 +82,25 @@ fn found_of(
     let mut found = Vec::new(alloc);
     let mut buffer = Vec::new(alloc);
     let mut trees = Vec::new(alloc);
-    let root = view.edge(newest).tree.view().root();
+    let tree = view.edge(newest).tree.view();
+    let root = tree.root();
+    let first = first_root(tree);
     find_all(
         alloc,
         rules,
         view,
         newest,
-        heads.exact(root),
+        heads.narrow(root, first),
+        &mut buffer,
+        &mut trees,
+        &mut found,
+    )?;
+    find_all(
+        alloc,
+        rules,
+        view,
+        newest,
+        heads.broad(root),
         &mut buffer,
         &mut trees,
         &mut found,
@@ -102,15 +129,23 @@ fn sorted(firings: Vec<Firing>) -> Result<Vec<Firing>, AllocError>
     Ok(firings)
 }
 
-// The trees, each with one owner.
-fn owned(alloc: Global, trees: Vec<Tree>) -> Result<Vec<Arc<Tree>>, AllocError>
-    ensures { IfOk result (λ v. map (λ t. arc_value t) v.items ≡ trees.items) }
+// The trees that a side stands for, each with one owner.
+fn owned_instance(
+    alloc: Global,
+    side: &[Pattern],
+    subst: &Subst,
+) -> Result<Vec<Arc<Tree>>, AllocError>
+    requires single { NoForestAtTop (patterns side.now) }
+    requires covered { IsCovered subst.now (patterns side.now) }
+    ensures { IfOk result (λ v. map (λ t. arc_value t) v.items ≡ inst subst.now (patterns side.now)) }
 {
-    let mut owned = Vec::with_capacity(alloc, trees.len())?;
-    for tree in trees {
-        owned.push(Arc::new(alloc, tree)?)?;
+    let mut trees = Vec::with_capacity(alloc, side.len())?;
+    for pattern in side {
+        let tree = one_instance(alloc, pattern, subst)?;
+        let tree = Arc::new(alloc, tree)?;
+        trees.push(tree)?;
     }
-    Ok(owned)
+    Ok(trees)
 }
 
 // The trees that a firing builds.
@@ -119,7 +154,7 @@ fn built(alloc: Global, rules: &[Rule], firing: &Firing) -> Result<Vec<Arc<Tree>
     ensures { IfOk result (λ v. map (λ t. arc_value t) v.items ≡ built rules.now firing.now) }
 {
     let rule = &rules[firing.rule as usize];
-    owned(alloc, instance(alloc, rule.right(), &firing.subst)?)
+    owned_instance(alloc, rule.right(), &firing.subst)
 }
 
 // Whether the firing is the last one once more.
@@ -139,7 +174,7 @@ fn made_of(alloc: Global, rules: &[Rule], firings: Vec<Firing>) -> Result<Vec<Ma
     requires rises { NeverFalls firings.items }
     ensures { IfOk result (λ v. AreMade rules.now firings.items v.items) }
 {
-    let mut made = Vec::new(alloc);
+    let mut made = Vec::with_capacity(alloc, firings.len())?;
     for firing in firings {
         if is_repeated(&made, &firing) {
             continue;

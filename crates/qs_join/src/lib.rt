@@ -3,6 +3,7 @@
 
 mod heads;
 mod joining;
+mod lists;
 mod search;
 
 pub use heads::Heads;

@@ -1,5 +1,5 @@
 -- What the search for the work of an arc has found: the middle of its proof.
-use Rattle.std.specs.Prelude.{ℕ, ◌≤◌, ◌<◌, ◌≡◌, List, [], ◌∷◌, ◌++◌, length, slice_get, Some}
+use Rattle.std.specs.Prelude.{ℕ, ◌≤◌, ◌≡◌, List, [], ◌∷◌, ◌++◌, length, slice_get, Some}
 use Rattle.qs_tree.specs.Lists.{◌∈◌}
 use Rattle.qs_pattern.specs.Patterns.{count}
 use Rattle.qs_pattern.specs.Instances.{IsMatch}
@@ -7,6 +7,7 @@ use Rattle.qs_pattern.specs.Conditions.{HoldsIfGiven}
 use Rattle.qs_pattern.specs.Rules.{Rule}
 use Rattle.qs_graph.specs.Graphs.{Arc, IsPath, trees_on}
 use Rattle.qs_firing.specs.Firings.{Firing}
+use Rattle.qs_join.specs.Heads.{IsPlace}
 
 -- f is a firing of this rule, which has this number, over these arcs.
 pub record FiresBy (number : ℕ) (rule : Rule) (arcs : List Arc) (f : Firing) : Type 0 where
@@ -53,5 +54,4 @@ pub record Finds (P : Firing → Type 0) (old new : List Firing) : Type 0 where
 
 -- These pairs are places of left sides of the rules.
 abbrev pub ArePlaces : List Rule → List (ℕ × ℕ) → Type 0
-ArePlaces R pairs =
-    (pair : ℕ × ℕ) → pair ∈ pairs → (rule : Rule) × (slice_get R pair.0 ≡ Some rule) × (pair.1 < count rule.left)
+ArePlaces R pairs = (pair : ℕ × ℕ) → pair ∈ pairs → IsPlace R pair

@@ -7,8 +7,8 @@ use Rattle.qs_firing.specs.Firings.{Firing}
 use Rattle.qs_join.proofs.Building.{covered, builds}
 use Rattle.qs_join.proofs.joining.built.Goals as goal
 
-pub instance-requires-clause-covered : goal.instance-requires-clause-covered
-instance-requires-clause-covered c =
+pub owned_instance-requires-clause-covered : goal.owned_instance-requires-clause-covered
+owned_instance-requires-clause-covered c =
     let (arcs, x) = c.requires in
     let rule = ap (λ (f : Firing). f.rule) c.firing.view_is in
     let values = ap (λ (f : Firing). f.values) c.firing.view_is in
@@ -23,4 +23,4 @@ returns c =
     let values = ap (λ (f : Firing). f.values) c.firing.view_is in
     let side = c.right.ensures.value in
     let is = builds c.args.rules.now arcs c.args.firing.now c.firing.inside.rule c.index-rules-firing.result x rule c.index-rules-firing.is in
-    IfOk-weaker c.owned.result _ _ (λ v h. h ∙ c.in_ok-instance.ensures ∙ (λ i. inst (values i) (side i)) ∙ sym is) c.owned.ensures
+    IfOk-weaker c.owned_instance.result _ _ (λ v h. h ∙ (λ i. inst (values i) (side i)) ∙ sym is) c.owned_instance.ensures
