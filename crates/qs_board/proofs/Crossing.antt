@@ -23,7 +23,7 @@ pattern_send = search (sendable, crosses, patterns, send-Pattern) depth 20
 cond_send : IsSend Cond.the_row
 cond_send = search (sendable, crosses, conditions, pattern_send, send-Cond) depth 20
 
-rule_send : IsSend Rule.the_row
+pub rule_send : IsSend Rule.the_row
 rule_send = search (sendable, crosses, pattern_send, cond_send) depth 20
 
 pattern_sync : IsSync Pattern.the_row
@@ -40,7 +40,7 @@ fields_send : IsSend State.TheInside.the_row
 fields_send = declared_send State.TheInside.the_type (
   search (sendable, crosses) depth 20,
   (
-    search (sendable, crosses, rule_send) depth 20,
+    search (sendable, crosses, rule_send, rule_sync) depth 20,
     (
       search sendable,
       (

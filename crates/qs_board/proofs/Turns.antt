@@ -4,6 +4,7 @@ use Rattle.std.specs.Prelude.{IfSome, Result, Ok, Err, IfOk, OnErr}
 use Rattle.std.specs.Option.{option_map}
 use Rattle.std.proofs.lemmas.Option.{slice_get_within}
 use Rattle.std.proofs.lemmas.List.{length-map}
+use Rattle.qs_tree.proofs.Elements.{set_here}
 use Rattle.qs_graph.specs.Graphs.{Arc}
 use Rattle.qs_graph.proofs.Paths.{slice_get-append}
 use Rattle.qs_firing.specs.Adding.{added}
@@ -28,7 +29,6 @@ use Rattle.qs_core.specs.Core.{Base, CoreState, all_wait, rest_one, HasClaim, Is
 use Rattle.qs_core.specs.Runs.{Machine, MachineWithRoom, IsReplayed, with_step, with_stop}
 use Rattle.qs_core.specs.Answers.{OtherHasClaim, RestsIfClaimed, end_of_stop, IsStopped, IsClaimed, IsPublished, IsHalted}
 use Rattle.qs_core.proofs.Places.{rest_cases}
-use Rattle.qs_core.proofs.Tables.{set_here}
 use Rattle.qs_core.proofs.Machines.{none_claims}
 use Rattle.qs_core.proofs.Staying.{free_none}
 use Rattle.qs_board.specs.declared.entry.Entry.{Entry}

@@ -2,8 +2,9 @@
 
 ghost use Rattle.std.specs.Prelude.{◌≡◌, ◌<◌, ◌≤◌, ◌+◌, ◌*◌, ◌^◌, ◌⊎◌, ℕ, List, [], length, slice_get, None, Some};
 ghost use Rattle.std.specs.Prelude.{All, IfOk, OnErr, vec_len};
+ghost use Rattle.std.specs.Arc.{arc_value};
 ghost use Rattle.qs_pattern.specs.Limits.{most_patterns};
-ghost use Rattle.qs_graph.specs.Graphs.{Arc};
+ghost use Rattle.qs_graph.specs.Graphs.{Arc as GraphArc};
 ghost use Rattle.qs_firing.specs.Work.{IsRightFor};
 ghost use Rattle.qs_turn.specs.History.{ContinuedByOthers};
 ghost use Rattle.qs_turn.specs.Passes.{passes_of, opened_value, number_of, seen_of, turns_of};
@@ -11,13 +12,13 @@ ghost use Rattle.qs_core.specs.Core.{IsFree, HasClaim, HasEnded};
 ghost use Rattle.qs_core.specs.Runs.{IsReplayed};
 
 use crate::kept::{Kept, claim_held, entry_at, entry_count, halt_held, publish_held};
-use qs_core::{Claim, Put, State};
+use qs_core::{Claim, Put, State, share_rules};
 use qs_firing::{Joined, View};
 use qs_graph::Graph;
 use qs_pattern::Rule;
 use qs_turn::{Held, Turns};
 use std::alloc::{AllocError, Global};
-use std::sync::Wait;
+use std::sync::{Arc, Wait};
 
 /// The right to take turns as one seat of a board, the one that has the pass's number.
 pub type Pass = qs_turn::Pass<Kept>;
@@ -58,7 +59,30 @@ impl Board {
         ensures own { IfOk result (λ r. All (λ p. IsSeatOf r.0 p × (seen_of p ≡ []) × (turns_of p ≡ 0)) r.1.items) }
         ensures numbers { IfOk result (λ r. (i : ℕ) (p : _) → slice_get r.1.items i ≡ Some p → number_of p ≡ i) }
     {
-        let state = State::open(alloc, rules, start, limit, workers)?;
+        let rules = share_rules(alloc, rules)?;
+        Board::open_shared(alloc, rules, start, limit, workers)
+    }
+
+    /// Does what `open` does, with rules that may have further owners. None is copied.
+    pub fn open_shared(
+        alloc: Global,
+        rules: Arc<Vec<Rule>>,
+        start: &Graph,
+        limit: u32,
+        workers: u32,
+    ) -> Result<(Board, Vec<Pass>), AllocError>
+        requires limit { 1 ≤ limit }
+        requires workers { 1 ≤ workers }
+        requires rules { length (arc_value rules).items < 4294967295 }
+        requires arcs { length start.now.arcs + most_patterns * limit < 2 ^ 32 }
+        requires nodes { start.now.nodes + most_patterns * limit < 2 ^ 32 }
+        ensures base { IfOk result (λ r. board_base r.0
+            ≡ record { rules = (arc_value rules).items; start = start.now; limit = limit; seats = workers }) }
+        ensures count { IfOk result (λ r. vec_len r.1 ≡ workers) }
+        ensures own { IfOk result (λ r. All (λ p. IsSeatOf r.0 p × (seen_of p ≡ []) × (turns_of p ≡ 0)) r.1.items) }
+        ensures numbers { IfOk result (λ r. (i : ℕ) (p : _) → slice_get r.1.items i ≡ Some p → number_of p ≡ i) }
+    {
+        let state = State::open_shared(alloc, rules, start, limit, workers)?;
         let (turns, passes) = Turns::open(alloc, Kept { state }, workers)?;
         Ok((Board { turns }, passes))
     }
@@ -121,7 +145,7 @@ impl Board {
             work.now k a (seen_of pass.new)) }
         ensures memory { OnErr result (EntersNothing (board_base self.now) (number_of pass.old) (seen_of pass.old)
             (seen_of pass.new)) }
-        ensures arcs { (view : List Arc) → SeesArcs self.now pass.old view → SeesArcs self.now pass.new view }
+        ensures arcs { (view : List GraphArc) → SeesArcs self.now pass.old view → SeesArcs self.now pass.new view }
         ensures knows { IfOk result (λ a. KnowsPut self.now pass.new work.now k a) }
     {
         let (mut held, before) = self.begin_turn(rt, pass);

@@ -3,6 +3,7 @@ use Rattle.std.proofs.Common.{◌≡◌, ℕ, zero, suc, ◌+◌, ◌<◌, ◌�
 use Rattle.std.proofs.lemmas.Option.{slice_get_within}
 use Rattle.std.proofs.lemmas.List.{length-map, map-append}
 use Rattle.std.proofs.lemmas.Bool.{cases_lt}
+use Rattle.qs_tree.proofs.Elements.{set_cases}
 use Rattle.qs_tree.specs.Lists.{◌∈◌}
 use Rattle.qs_tree.proofs.Members.{in_at, in_append_left, in_append_right, from_append}
 use Rattle.qs_pattern.specs.Rules.{IsUnique}
@@ -22,7 +23,7 @@ use Rattle.qs_core.specs.Core.{Base, CoreState, Fired, fired, fired_at, all_wait
 use Rattle.qs_core.specs.Keeps.{AreFirst, Keeps}
 use Rattle.qs_core.proofs.Growth.{grown_more, at_more, at_last, apart_more}
 use Rattle.qs_core.proofs.Twins.{valid_ends, no_twins}
-use Rattle.qs_core.proofs.Places.{all_waiting, set_cases, more_cases, rest_cases, at_one_place}
+use Rattle.qs_core.proofs.Places.{all_waiting, more_cases, rest_cases, at_one_place}
 
 pub keeps_opening : (B : Base) → Keeps B (opening B)
 keeps_opening B = record {

@@ -3,17 +3,13 @@ use Rattle.std.proofs.Common.{◌≡◌, ℕ, zero, suc, ◌+◌, ◌-◌, ◌<�
 use Rattle.std.proofs.lemmas.Bool.{cases_lt}
 use Rattle.std.proofs.lemmas.Option.{slice_get_within}
 use Rattle.std.proofs.lemmas.List.{length-map, length-drop}
+use Rattle.qs_tree.proofs.Elements.{at_mapped}
 use Rattle.qs_tree.specs.Trees.{Tree}
 use Rattle.qs_tree.proofs.Decisions.{same_there}
 use Rattle.qs_graph.specs.Graphs.{Arc}
 use Rattle.qs_firing.specs.Adding.{least_arc}
 use Rattle.qs_firing.specs.Neighbours.{starts, IsLastPlace}
 use Rattle.qs_firing.proofs.Merging.{least_is, is_least}
-
-pub at_mapped : {X Y : Type 0} (f : X → Y) (xs : List X) (k : ℕ) (x : X) → slice_get xs k ≡ Some x → slice_get (map f xs) k ≡ Some (f x)
-at_mapped f [] k x e = absurd cc
-at_mapped f (y ∷ xs) zero x e = let same : y ≡ x = cc in ap (λ z. Some (f z)) same
-at_mapped f (y ∷ xs) (suc k) x e = at_mapped f xs k x e
 
 in_front : {X : Type 0} (n : ℕ) (xs : List X) (k : ℕ) (x : X) → k < n → slice_get xs k ≡ Some x → slice_get (take n xs) k ≡ Some x
 in_front zero xs k x h e = absurd (omega arith)

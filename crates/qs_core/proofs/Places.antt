@@ -14,13 +14,6 @@ all_waiting [] m s e = absurd cc
 all_waiting (x ∷ xs) zero s e = cc
 all_waiting (x ∷ xs) (suc m) s e = all_waiting xs m s e
 
-pub set_cases : {X : Type 0} (xs : List X) (m : ℕ) (y : X) (n : ℕ) (x : X) → slice_get (set xs m y) n ≡ Some x → ((n ≡ m) × (x ≡ y)) ⊎ ((n ≡ m → ⊥) × (slice_get xs n ≡ Some x))
-set_cases [] m y n x e = absurd cc
-set_cases (z ∷ xs) zero y zero x e = inl (refl, cc)
-set_cases (z ∷ xs) zero y (suc n) x e = inr ((λ d. omega arith), e)
-set_cases (z ∷ xs) (suc m) y zero x e = inr ((λ d. omega arith), e)
-set_cases (z ∷ xs) (suc m) y (suc n) x e = ⊎_elim (λ (d, i). inl (ap suc d, i)) (λ (ne, i). inr ((λ d. ne (omega arith)), i)) (set_cases xs m y n x e)
-
 pub more_cases : {X : Type 0} (xs ys : List X) (n : ℕ) (x : X) → slice_get (xs ++ ys) n ≡ Some x → (slice_get xs n ≡ Some x) ⊎ ((length xs ≤ n) × ((j : ℕ) × (slice_get ys j ≡ Some x)))
 more_cases [] ys n x e = inr (omega arith, (n, e))
 more_cases (z ∷ xs) ys zero x e = inl e

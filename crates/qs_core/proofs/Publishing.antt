@@ -1,6 +1,7 @@
 -- A publication: what its conditions show, and what it makes of the machine.
 use Rattle.std.proofs.Common.{◌≡◌, ℕ, zero, suc, ◌+◌, ◌*◌, ◌^◌, ◌<◌, ◌≤◌, Bool, List, [], ◌∷◌, ◌++◌, length, map, set, take, replicate, refl, sym, ◌∙◌, ap, subst, arith, Option, Some, None, slice_get, get_or}
 use Rattle.std.proofs.lemmas.List.{length-map, length-take, take-append-le}
+use Rattle.qs_tree.proofs.Elements.{at_mapped}
 use Rattle.qs_tree.specs.Lists.{◌∈◌}
 use Rattle.qs_tree.proofs.Members.{in_at, in_map, at_place}
 use Rattle.qs_pattern.specs.Rules.{Rule, IsAccepted, all_unique}
@@ -42,11 +43,6 @@ grown_few R accepted G (f ∷ fs) H (r, g) =
     let (a, n) = adds_few R accepted G f in
     let (b, m) = grown_few R accepted (adds R G f) fs H g in
     (omega (arith, a, b), omega (arith, n, m))
-
-at_mapped : {X Y : Type 0} (f : X → Y) (xs : List X) (k : ℕ) (x : X) → slice_get xs k ≡ Some x → slice_get (map f xs) k ≡ Some (f x)
-at_mapped f [] k x e = absurd cc
-at_mapped f (y ∷ xs) zero x e = let same : y ≡ x = cc in ap (λ z. Some (f z)) same
-at_mapped f (y ∷ xs) (suc k) x e = at_mapped f xs k x e
 
 set_more : {X : Type 0} (xs ys : List X) (m : ℕ) (y : X) → m < length xs → set (xs ++ ys) m y ≡ set xs m y ++ ys
 set_more [] ys m y h = absurd (omega arith)

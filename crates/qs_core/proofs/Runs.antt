@@ -1,6 +1,7 @@
 -- Runs: what every state keeps is kept behind them, and they are determined, limited and, where they close, complete.
 use Rattle.std.proofs.Common.{◌≡◌, ℕ, zero, suc, ◌+◌, ◌<◌, Bool, true, false, List, [], ◌∷◌, ◌++◌, length, map, set, refl, sym, ◌∙◌, ap, subst, ⊎_elim, arith, Option, Some, None, slice_get, eqb, eqb-true}
 use Rattle.std.specs.Prelude.{if◌then◌else◌, ◌↔◌}
+use Rattle.qs_tree.proofs.Elements.{exists_at, set_other, set_cases}
 use Rattle.qs_tree.specs.Lists.{◌∈◌}
 use Rattle.qs_graph.proofs.Paths.{slice_get-append}
 use Rattle.qs_firing.specs.Firings.{Firing, Fires}
@@ -16,7 +17,7 @@ use Rattle.qs_core.specs.declared.step.Status.TheVariants as status
 use Rattle.qs_core.specs.Core.{Base, CoreState, fired, opening, all_wait, rest_one, IsClosed, HasClaim, Next, after_publish, after_stop}
 use Rattle.qs_core.specs.Runs.{Makes, Stops, seat_of, Steps, StopsIfGiven, Run}
 use Rattle.qs_core.specs.Keeps.{Keeps}
-use Rattle.qs_core.proofs.Places.{all_waiting, set_cases, more_cases, rest_cases}
+use Rattle.qs_core.proofs.Places.{all_waiting, more_cases, rest_cases}
 use Rattle.qs_core.proofs.Keeping.{keeps_opening, keeps_stopped, keeps_claim, keeps_rest, keeps_publish}
 
 pub keeps_step : (B : Base) (S : CoreState) (v : Step) (T : CoreState) → Makes B S v T → Keeps B S → Keeps B T
@@ -50,13 +51,6 @@ status_of_rested i j k ne (x ∷ xs) zero e = let d : x ≡ status.Claimed j k =
     tested true t = let e = eqb-true j i t in absurd (ne (sym e))
     tested false t = refl
 
-slice_get-set_other : {X : Type 0} (xs : List X) (m : ℕ) (y : X) (n : ℕ) (x : X) → (n ≡ m → ⊥) → slice_get xs n ≡ Some x → slice_get (set xs m y) n ≡ Some x
-slice_get-set_other [] m y n x ne e = absurd cc
-slice_get-set_other (z ∷ xs) zero y zero x ne e = absurd (ne refl)
-slice_get-set_other (z ∷ xs) zero y (suc n) x ne e = e
-slice_get-set_other (z ∷ xs) (suc m) y zero x ne e = e
-slice_get-set_other (z ∷ xs) (suc m) y (suc n) x ne e = slice_get-set_other xs m y n x (λ d. ne (ap suc d)) e
-
 back_rested : (i j k : ℕ) (xs : List Status) (m : ℕ) → slice_get (map (rest_one i) xs) m ≡ Some (status.Claimed j k) → slice_get xs m ≡ Some (status.Claimed j k)
 back_rested i j k xs m e = ⊎_elim (λ (d, n). d) (λ (l, d, n). absurd cc) (rest_cases i xs m (status.Claimed j k) e)
 
@@ -64,7 +58,7 @@ pub own : (B : Base) (S : CoreState) (v : Step) (T : CoreState) → Makes B S v 
 own B S (step.Claim i n) T (may, is) j m k ne = subst (λ (X : CoreState). HasClaim S j m k ↔ HasClaim X j m k) (sym is) (there, back)
   where
     there : slice_get S.status m ≡ Some (status.Claimed j k) → slice_get (set (map (rest_one i) S.status) n (status.Claimed i 0)) m ≡ Some (status.Claimed j k)
-    there e = slice_get-set_other (map (rest_one i) S.status) n (status.Claimed i 0) m (status.Claimed j k) (λ d. let w = may.waits in let c = ap (slice_get S.status) d in cc) (status_of_rested i j k ne S.status m e)
+    there e = set_other (map (rest_one i) S.status) n (status.Claimed i 0) m (status.Claimed j k) (λ d. let w = may.waits in let c = ap (slice_get S.status) d in cc) (status_of_rested i j k ne S.status m e)
 
     back : slice_get (set (map (rest_one i) S.status) n (status.Claimed i 0)) m ≡ Some (status.Claimed j k) → slice_get S.status m ≡ Some (status.Claimed j k)
     back e = ⊎_elim (λ (d, c). absurd (ne (let same : i ≡ j = cc in same))) (λ (d, c). back_rested i j k S.status m c) (set_cases (map (rest_one i) S.status) n (status.Claimed i 0) m (status.Claimed j k) e)
@@ -75,7 +69,7 @@ own B S (step.Publish i) T (may, is) j m k ne = subst (λ (X : CoreState). HasCl
   where
     there : slice_get S.status m ≡ Some (status.Claimed j k) → slice_get (after_publish B.rules S i may.next.arc may.next.k may.next.firing).status m ≡ Some (status.Claimed j k)
     there e = slice_get-append (set S.status may.next.arc (status.Claimed i (may.next.k + 1))) (all_wait (added B.rules S.graph may.next.firing)) m (status.Claimed j k)
-        (slice_get-set_other S.status may.next.arc (status.Claimed i (may.next.k + 1)) m (status.Claimed j k) (λ d. ne (let w = may.next.claim in let c = ap (slice_get S.status) d in let same : i ≡ j = cc in same)) e)
+        (set_other S.status may.next.arc (status.Claimed i (may.next.k + 1)) m (status.Claimed j k) (λ d. ne (let w = may.next.claim in let c = ap (slice_get S.status) d in let same : i ≡ j = cc in same)) e)
 
     back : slice_get (after_publish B.rules S i may.next.arc may.next.k may.next.firing).status m ≡ Some (status.Claimed j k) → slice_get S.status m ≡ Some (status.Claimed j k)
     back e = ⊎_elim
@@ -131,11 +125,6 @@ steps_more B S [] T v U e m = (U, subst (λ X. Makes B X v U) (sym e) m, refl)
 steps_more B S (w ∷ ws) T v U (X, s, r) m = (X, s, steps_more B X ws T v U r m)
 
 -- in a closed state all firings are done
-pub exists_at : {X : Type 0} (xs : List X) (m : ℕ) → m < length xs → (x : X) × (slice_get xs m ≡ Some x)
-exists_at [] m h = absurd (omega arith)
-exists_at (x ∷ xs) zero h = (x, refl)
-exists_at (x ∷ xs) (suc m) h = exists_at xs m (omega arith)
-
 pub closed_all : (B : Base) (S : CoreState) → Keeps B S → IsClosed S → (f : Firing) → Fires B.rules S.graph.arcs f → f ∈ fired S
 closed_all B S K c f r =
     let (m, w) = work_of B.rules S.graph.arcs f r in

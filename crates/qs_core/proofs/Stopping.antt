@@ -1,5 +1,6 @@
 -- A run that is stopped because more firings are needed than the limit.
 use Rattle.std.proofs.Common.{◌≡◌, ℕ, ◌<◌, ◌≤◌, ◌∙◌, Bool, List, length, refl, sym, ap, subst, arith, None, Some, slice_get, ◌∷◌, [], suc, zero}
+use Rattle.qs_tree.proofs.Elements.{exists_at}
 use Rattle.qs_firing.specs.Work.{WorkWithTrees, IsRightFor}
 use Rattle.qs_core.specs.declared.step.Stop.TheVariants as stop
 use Rattle.qs_core.specs.Core.{HasClaim}
@@ -7,11 +8,6 @@ use Rattle.qs_core.specs.Runs.{Machine, with_stop, MayStopOver}
 use Rattle.qs_core.specs.Machines.{IsSound}
 use Rattle.qs_core.proofs.Machines.{sound_stop}
 use Rattle.qs_core.proofs.Publishing.{next, done_few, claim_seated}
-
-exists_at : {X : Type 0} (xs : List X) (m : ℕ) → m < length xs → (x : X) × (slice_get xs m ≡ Some x)
-exists_at [] m h = absurd (omega arith)
-exists_at (x ∷ xs) zero h = (x, refl)
-exists_at (x ∷ xs) (suc m) h = exists_at xs m (omega arith)
 
 module _ (M now : Machine) (entry exit arcs : ℕ) (unique : Bool) (i k : ℕ) (work : WorkWithTrees) (same : M ≡ now) (sound : IsSound M entry exit arcs unique) (going : M.state.stop ≡ None)
     (claim : now.state.stop ≡ None → HasClaim now.state i work.arc k) (more : now.state.stop ≡ None → k < length work.made)

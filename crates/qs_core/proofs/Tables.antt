@@ -3,6 +3,8 @@ use Rattle.std.proofs.Common.{◌≡◌, ℕ, zero, suc, ◌+◌, ◌-◌, ◌^�
 use Rattle.std.specs.Prelude.{if◌then◌else◌}
 use Rattle.std.proofs.lemmas.Option.{slice_get_within}
 use Rattle.std.proofs.lemmas.List.{length-replicate, take-append-le}
+use Rattle.qs_tree.proofs.Decisions.{same_there}
+use Rattle.qs_tree.proofs.Elements.{set_here, set_other, set_cases, of_replicate}
 use Rattle.qs_tree.proofs.Members.{at_place}
 use Rattle.qs_graph.proofs.Paths.{slice_get-append}
 use Rattle.qs_core.specs.declared.step.Status.{Status}
@@ -10,27 +12,7 @@ use Rattle.qs_core.specs.declared.step.Status.TheVariants as status
 use Rattle.qs_core.specs.Core.{rest_one}
 use Rattle.qs_core.specs.Machines.{StatusTable}
 use Rattle.qs_core.specs.working.Tables.{IsTable, undone_one, undone, IsClaimOf}
-use Rattle.qs_core.proofs.Places.{set_cases, more_cases}
-
-pub set_here : {X : Type 0} (xs : List X) (m : ℕ) (y : X) → m < length xs → slice_get (set xs m y) m ≡ Some y
-set_here [] m y h = absurd (omega arith)
-set_here (x ∷ xs) zero y h = refl
-set_here (x ∷ xs) (suc m) y h = set_here xs m y (omega arith)
-
-pub set_other : {X : Type 0} (xs : List X) (m : ℕ) (y : X) (n : ℕ) (x : X) → (n ≡ m → ⊥) → slice_get xs n ≡ Some x → slice_get (set xs m y) n ≡ Some x
-set_other [] m y n x ne e = absurd cc
-set_other (z ∷ xs) zero y zero x ne e = absurd (ne refl)
-set_other (z ∷ xs) zero y (suc n) x ne e = e
-set_other (z ∷ xs) (suc m) y zero x ne e = e
-set_other (z ∷ xs) (suc m) y (suc n) x ne e = set_other xs m y n x (λ d. ne (ap suc d)) e
-
-pub of_replicate : {X : Type 0} (n : ℕ) (x : X) (k : ℕ) (y : X) → slice_get (replicate n x) k ≡ Some y → y ≡ x
-of_replicate zero x k y e = absurd cc
-of_replicate (suc n) x zero y e = cc
-of_replicate (suc n) x (suc k) y e = of_replicate n x k y e
-
-one_in : {X : Type 0} {o : Option X} {x y : X} → o ≡ Some x → o ≡ Some y → x ≡ y
-one_in e d = cc
+use Rattle.qs_core.proofs.Places.{more_cases}
 
 -- how many aren't done
 undone_set : (xs : List Status) (m : ℕ) (x y : Status) → slice_get xs m ≡ Some x → undone (set xs m y) + undone_one x ≡ undone xs + undone_one y
@@ -133,7 +115,7 @@ module _ {list : List Status} {claims : List (Option ℕ)} {next left : ℕ} (t 
   read_at now e i o seat at = at_place claims i o (omega (arith, seat, ap (λ (x : StatusTable). x.seats) e)) at
 
   pub one_claim : (i m n k l : ℕ) → slice_get list m ≡ Some (status.Claimed i k) → slice_get list n ≡ Some (status.Claimed i l) → m ≡ n
-  one_claim i m n k l e d = let x : Some m ≡ Some n = one_in ((t.claims_are i m).1 (k, e)) ((t.claims_are i n).1 (l, d)) in cc
+  one_claim i m n k l e d = let x : Some m ≡ Some n = same_there ((t.claims_are i m).1 (k, e)) ((t.claims_are i n).1 (l, d)) in cc
 
   pub claimed_low : (i m : ℕ) → slice_get claims i ≡ Some (Some m) → m < length list
   claimed_low i m at = let (k, e) = (t.claims_are i m).0 at in slice_get_within list m (status.Claimed i k) e
@@ -166,7 +148,7 @@ module _ {list : List Status} {claims : List (Option ℕ)} {next left : ℕ} (t 
       there k c j m e = ⊎_elim
           (λ (d, x). absurd cc)
           (λ (ne, d). let (l, f) = (t.claims_are j m).0 d in
-          (l, set_other list arc status.Done m (status.Claimed j l) (λ s. let x : status.Claimed j l ≡ status.Claimed i k = one_in f (ap (slice_get list) s ∙ c) in ne cc) f))
+          (l, set_other list arc status.Done m (status.Claimed j l) (λ s. let x : status.Claimed j l ≡ status.Claimed i k = same_there f (ap (slice_get list) s ∙ c) in ne cc) f))
           (set_cases claims i None j (Some m) e)
 
       back : (k : ℕ) → slice_get list arc ≡ Some (status.Claimed i k) → (j m : ℕ) → ((l : ℕ) × (slice_get (set list arc status.Done) m ≡ Some (status.Claimed j l))) → slice_get (set claims i None) j ≡ Some (Some m)
@@ -194,7 +176,7 @@ module _ {list : List Status} {claims : List (Option ℕ)} {next left : ℕ} (t 
           (λ (d, x). let same : m ≡ arc = cc in
           (0, ap (slice_get (set list arc (status.Claimed i 0))) same ∙ set_here list arc (status.Claimed i 0) low ∙ ap (λ n. Some (status.Claimed n 0)) (sym d)))
           (λ (ne, d). let (l, f) = (t.claims_are j m).0 d in
-          (l, set_other list arc (status.Claimed i 0) m (status.Claimed j l) (λ s. let x : status.Claimed j l ≡ status.Waiting = one_in f (ap (slice_get list) s ∙ waits) in cc) f))
+          (l, set_other list arc (status.Claimed i 0) m (status.Claimed j l) (λ s. let x : status.Claimed j l ≡ status.Waiting = same_there f (ap (slice_get list) s ∙ waits) in cc) f))
           (set_cases claims i (Some arc) j (Some m) e)
 
       back : (j m : ℕ) → ((l : ℕ) × (slice_get (set list arc (status.Claimed i 0)) m ≡ Some (status.Claimed j l))) → slice_get (set claims i (Some arc)) j ≡ Some (Some m)
@@ -230,7 +212,7 @@ module _ {list : List Status} {claims : List (Option ℕ)} {next left : ℕ} (t 
 
           by : (l : ℕ) → slice_get list m ≡ Some (status.Claimed j l) → (m ≡ arc) ⊎ (m ≡ arc → ⊥) → (l : ℕ) × (slice_get (set list arc (status.Claimed i n)) m ≡ Some (status.Claimed j l))
           by l f (inl s) =
-              let x : status.Claimed j l ≡ status.Claimed i k = one_in f (ap (slice_get list) s ∙ c) in
+              let x : status.Claimed j l ≡ status.Claimed i k = same_there f (ap (slice_get list) s ∙ c) in
               let same : i ≡ j = cc in
               (n, ap (slice_get (set list arc (status.Claimed i n))) s ∙ set_here list arc (status.Claimed i n) low ∙ ap (λ x. Some (status.Claimed x n)) same)
           by l f (inr ne) = (l, set_other list arc (status.Claimed i n) m (status.Claimed j l) ne f)

@@ -50,6 +50,13 @@ impl Arcs {
         Ok(Arcs { nodes, view })
     }
 
+    /// The arcs, as a view of them.
+    pub fn view(&self) -> &View
+        ensures { result.now ≡ self.now.arcs }
+    {
+        &self.view
+    }
+
     /// The arcs in their order.
     pub fn edges(&self) -> &[Edge]
         ensures value { result.now ≡ self.now.arcs }

@@ -6,6 +6,7 @@ mod answers;
 mod arcs;
 mod fired;
 pub mod laws;
+mod sharing;
 mod state;
 mod statuses;
 mod step;
@@ -13,6 +14,7 @@ mod stepping;
 
 pub use answers::{Claim, End, Put};
 pub use fired::Fired;
+pub use sharing::share_rules;
 pub use state::State;
 pub use std::alloc::AllocError as Memory;
 pub use step::{Status, Step, Stop};

@@ -2,6 +2,7 @@
 
 ghost use Rattle.std.specs.Prelude.{◌≡◌, ◌<◌, ◌≤◌, ◌+◌, ◌*◌, ◌^◌, ◌++◌, List, length, slice_get, IfOk, OnOk, OnErr};
 ghost use Rattle.std.specs.Prelude.{Some};
+ghost use Rattle.std.specs.Arc.{arc_value};
 ghost use Rattle.qs_tree.specs.Lists.{◌∈◌};
 ghost use Rattle.qs_pattern.specs.Limits.{most_patterns};
 ghost use Rattle.qs_pattern.specs.Rules.{Rule as RuleOfPatterns, IsAccepted, all_unique};
@@ -12,6 +13,7 @@ ghost use Rattle.qs_core.specs.Answers.{opened, IsEnd};
 use crate::answers::End;
 use crate::arcs::Arcs;
 use crate::fired::Fired;
+use crate::sharing::share_rules;
 use crate::statuses::Statuses;
 use crate::step::{Step, Stop};
 use qs_firing::View;
@@ -19,6 +21,7 @@ use qs_graph::{Edge, Graph};
 use qs_pattern::Rule;
 use std::alloc::{AllocError, Global};
 use std::marker::Model;
+use std::sync::Arc;
 
 /// The machine in which seats claim arcs and do the firings that are their work, step by step. It keeps what no step
 /// changes, the steps that were made, which are its journal, and the state behind them; so replaying its journal, and
@@ -27,7 +30,7 @@ use std::marker::Model;
 #[derive(Drop)]
 pub struct State {
     pub(crate) alloc: Global,
-    rules: Vec<Rule>,
+    rules: Arc<Vec<Rule>>,
     // Whether the rules are all marked unique.
     pub(crate) unique: bool,
     // The nodes and the arcs with which it started, and the entry and the exit.
@@ -45,6 +48,7 @@ pub struct State {
 
 impl Model for State {
     ghost use Rattle.std.specs.Prelude.{◌-◌, vec_len, vec_capacity};
+    ghost use Rattle.std.specs.Arc.{arc_value};
     ghost use Rattle.qs_core.specs.Runs.{MachineWithRoom};
     ghost use Rattle.qs_core.specs.Machines.{machine_from, IsSound};
     ghost use Rattle.qs_core.specs.working.Codes.{machine_code};
@@ -54,13 +58,13 @@ impl Model for State {
     ghost coded = { machine_code };
 
     ghost view = { λ s. record {
-      machine = machine_from s.rules.items s.start_nodes s.start_arcs s.limit s.arcs s.statuses s.fired.items
-          s.journal.items s.stop;
+      machine = machine_from (arc_value s.rules).items s.start_nodes s.start_arcs s.limit s.arcs s.statuses
+          s.fired.items s.journal.items s.stop;
       room = vec_capacity s.journal - vec_len s.journal;
     } };
 
-    ghost invariant = { λ s. IsSound (machine_from s.rules.items s.start_nodes s.start_arcs s.limit s.arcs s.statuses
-        s.fired.items s.journal.items s.stop) s.entry s.exit s.start_arcs s.unique };
+    ghost invariant = { λ s. IsSound (machine_from (arc_value s.rules).items s.start_nodes s.start_arcs s.limit s.arcs
+        s.statuses s.fired.items s.journal.items s.stop) s.entry s.exit s.start_arcs s.unique };
 }
 
 // Whether the rules are all marked unique. Each of them is an accepted one, by its type.
@@ -73,17 +77,6 @@ fn are_unique(rules: &[Rule]) -> bool
         all &= rule.unique();
     }
     all
-}
-
-// Equal rules.
-fn copies_of(alloc: Global, rules: &[Rule]) -> Result<Vec<Rule>, AllocError>
-    ensures { IfOk result (λ v. v.items ≡ rules.now) }
-{
-    let mut copies = Vec::with_capacity(alloc, rules.len())?;
-    for rule in rules {
-        copies.push(rule.copy()?)?;
-    }
-    Ok(copies)
 }
 
 impl State {
@@ -105,8 +98,31 @@ impl State {
         ensures { IfOk result (λ s. s.machine
             ≡ opened (record { rules = rules.now; start = start.now; limit = limit; seats = seats })) }
     {
-        let unique = are_unique(rules);
-        let rules = copies_of(alloc, rules)?;
+        let rules = share_rules(alloc, rules)?;
+        State::open_shared(alloc, rules, start, limit, seats)
+    }
+
+    /// Does what `open` does, with rules that may have further owners. None is copied.
+    pub fn open_shared(
+        alloc: Global,
+        rules: Arc<Vec<Rule>>,
+        start: &Graph,
+        limit: u32,
+        seats: u32,
+    ) -> Result<State, AllocError>
+        requires limit { 1 ≤ limit }
+        requires seats { 1 ≤ seats }
+        requires rules { length (arc_value rules).items < 4294967295 }
+        requires arcs { length start.now.arcs + most_patterns * limit < 2 ^ 32 }
+        requires nodes { start.now.nodes + most_patterns * limit < 2 ^ 32 }
+        ensures { IfOk result (λ s. s.machine ≡ opened (record {
+          rules = (arc_value rules).items;
+          start = start.now;
+          limit = limit;
+          seats = seats;
+        })) }
+    {
+        let unique = are_unique(&rules);
         let arcs = Arcs::of(alloc, start.nodes(), start.edges())?;
         let statuses = Statuses::of(alloc, arcs.len(), seats)?;
         Ok(State {
@@ -146,6 +162,13 @@ impl State {
         ensures { slice_get self.now.machine.state.graph.arcs arc ≡ Some result.now }
     {
         self.arcs.edge(arc)
+    }
+
+    /// The arcs, as a view of them. Takes no memory.
+    pub fn view(&self) -> &View
+        ensures { result.now ≡ self.now.machine.state.graph.arcs }
+    {
+        self.arcs.view()
     }
 
     /// The firings that are done, in the order in which they were done. Takes no memory.

@@ -2,6 +2,7 @@
 use Rattle.std.proofs.Common.{◌≡◌, ℕ, suc, ◌<◌, List, [], ◌∷◌, ◌++◌, length, refl, sym, ap, ◌∙◌, subst, append_assoc, append-nil, length-append, All, arith}
 use Rattle.std.specs.Prelude.{Option, Some}
 use Rattle.std.proofs.lemmas.List.Elements.{All-nil, All-cons}
+use Rattle.std.proofs.lemmas.List.{nil_from_length}
 use mathlib.Core.Option.{some, some-injective}
 use lib.ListN.{get_elem?}
 use Rattle.atomic_table.specs.Table.{Final, Seen}
@@ -60,17 +61,13 @@ pub all_front : {X : Type 0} (P : X → Type 0) (xs : List X) (y : X) → All P 
 all_front P [] y all = (All-nil P, all 0 y (omega arith))
 all_front P (x ∷ xs) y all = let more = all_front P xs y (λ k d l. all (suc k) d (omega arith)) in (All-cons P x xs (all 0 x (omega arith)) more.0, more.1)
 
-pub nil_from_none : {X : Type 0} (xs : List X) → length xs ≡ 0 → xs ≡ []
-nil_from_none [] e = refl
-nil_from_none (x ∷ xs) e = absurd (omega arith)
-
 module _ {S E C : Type 0} {g : Ghosts S E} (base : S → C) (history_of : S → List E) (pass_of : E → ℕ) (one_base : C) (opened : List E) (passes : ℕ) where
   -- all passes are in the one seat, none is left, and the slot was read
   pub closed : (left all : List (Pass S E g)) (id : ℕ) (v : SeatView S E) (ws : List ℕ) (xs : List (Option S)) (y : Option S) → length left ≡ 0 → all_known left ++ v.known ≡ all_known all → length all ≡ passes
       → v.stage ≡ Idle → 0 < passes → Final (Seen (TurnRule base history_of pass_of one_base opened passes) id v) ws xs → get_elem? xs 0 ≡ some y
       → (x : S) × (y ≡ Some x) × AreRight base pass_of (base x) passes (history_of x) (all_known all)
   closed left all id v ws xs y none is count idle some_pass final at =
-      let same : v.known ≡ all_known all = sym (ap (λ ps. all_known ps ++ v.known) (nil_from_none left none)) ∙ is in
+      let same : v.known ≡ all_known all = sym (ap (λ ps. all_known ps ++ v.known) (nil_from_length left none)) ∙ is in
       let c = closing base history_of pass_of one_base opened passes id v ws xs y idle (ap length same ∙ (all_known_length all ∙ count)) some_pass final at in
       (c.0, c.1, subst (λ ks. AreRight base pass_of (base c.0) passes (history_of c.0) ks) same c.2)
 

@@ -1,4 +1,5 @@
 use Rattle.std.proofs.Common.{◌+◌, ◌++◌, ◌∙◌, ap, sym, subst, arith, slice_get, set, length, replicate, [], ◌∷◌}
+use Rattle.std.specs.Arc.{arc_value}
 use Rattle.qs_graph.proofs.Paths.{slice_get-append}
 use Rattle.qs_firing.specs.Adding.{first_arc}
 use Rattle.qs_firing.specs.Work.{WithTrees}
@@ -14,7 +15,7 @@ use Rattle.qs_core.proofs.state.State.add_firing.Goals as goal
 pub added_by-requires-clause-path : goal.added_by-requires-clause-path
 added_by-requires-clause-path c =
     let s = c.self.inside in
-    let M = machine_from s.rules.items s.start_nodes s.start_arcs s.limit s.arcs s.statuses s.fired.items s.journal.items s.stop in
+    let M = machine_from (arc_value s.rules).items s.start_nodes s.start_arcs s.limit s.arcs s.statuses s.fired.items s.journal.items s.stop in
     let same = ap (λ (x : MachineWithRoom). x.machine) c.self.view_is in
     let a = asked M c.args.self.now.machine s.entry s.exit s.start_arcs s.unique c.args.seat c.args.k c.args.work.now c.made.result.now c.index-made-k.result same c.self.invariant
     c.requires.going c.requires.few c.requires.claim c.requires.more c.requires.right c.made.ensures c.index-made-k.is in
@@ -23,7 +24,7 @@ added_by-requires-clause-path c =
 pub added_by-requires-clause-some : goal.added_by-requires-clause-some
 added_by-requires-clause-some c =
     let s = c.self.inside in
-    let M = machine_from s.rules.items s.start_nodes s.start_arcs s.limit s.arcs s.statuses s.fired.items s.journal.items s.stop in
+    let M = machine_from (arc_value s.rules).items s.start_nodes s.start_arcs s.limit s.arcs s.statuses s.fired.items s.journal.items s.stop in
     let same = ap (λ (x : MachineWithRoom). x.machine) c.self.view_is in
     let a = asked M c.args.self.now.machine s.entry s.exit s.start_arcs s.unique c.args.seat c.args.k c.args.work.now c.made.result.now c.index-made-k.result same c.self.invariant
     c.requires.going c.requires.few c.requires.claim c.requires.more c.requires.right c.made.ensures c.index-made-k.is in
@@ -32,7 +33,7 @@ added_by-requires-clause-some c =
 pub added_by-requires-clause-nodes : goal.added_by-requires-clause-nodes
 added_by-requires-clause-nodes c =
     let s = c.self.inside in
-    let M = machine_from s.rules.items s.start_nodes s.start_arcs s.limit s.arcs s.statuses s.fired.items s.journal.items s.stop in
+    let M = machine_from (arc_value s.rules).items s.start_nodes s.start_arcs s.limit s.arcs s.statuses s.fired.items s.journal.items s.stop in
     let same = ap (λ (x : MachineWithRoom). x.machine) c.self.view_is in
     let a = asked M c.args.self.now.machine s.entry s.exit s.start_arcs s.unique c.args.seat c.args.k c.args.work.now c.made.result.now c.index-made-k.result same c.self.invariant
     c.requires.going c.requires.few c.requires.claim c.requires.more c.requires.right c.made.ensures c.index-made-k.is in
@@ -41,7 +42,7 @@ added_by-requires-clause-nodes c =
 pub grow-requires-clause-nodes : goal.grow-requires-clause-nodes
 grow-requires-clause-nodes c =
     let s = c.self.inside in
-    let M = machine_from s.rules.items s.start_nodes s.start_arcs s.limit s.arcs s.statuses s.fired.items s.journal.items s.stop in
+    let M = machine_from (arc_value s.rules).items s.start_nodes s.start_arcs s.limit s.arcs s.statuses s.fired.items s.journal.items s.stop in
     let same = ap (λ (x : MachineWithRoom). x.machine) c.self.view_is in
     let a = asked M c.args.self.now.machine s.entry s.exit s.start_arcs s.unique c.args.seat c.args.k c.args.work.now c.made.result.now c.index-made-k.result same c.self.invariant
     c.requires.going c.requires.few c.requires.claim c.requires.more c.requires.right c.made.ensures c.index-made-k.is in
@@ -52,20 +53,20 @@ grow-requires-clause-nodes c =
 pub grow-requires-clause-arcs : goal.grow-requires-clause-arcs
 grow-requires-clause-arcs c =
     let s = c.self.inside in
-    let M = machine_from s.rules.items s.start_nodes s.start_arcs s.limit s.arcs s.statuses s.fired.items s.journal.items s.stop in
+    let M = machine_from (arc_value s.rules).items s.start_nodes s.start_arcs s.limit s.arcs s.statuses s.fired.items s.journal.items s.stop in
     let same = ap (λ (x : MachineWithRoom). x.machine) c.self.view_is in
     let a = asked M c.args.self.now.machine s.entry s.exit s.start_arcs s.unique c.args.seat c.args.k c.args.work.now c.made.result.now c.index-made-k.result same c.self.invariant
     c.requires.going c.requires.few c.requires.claim c.requires.more c.requires.right c.made.ensures c.index-made-k.is in
     let added = c.in_ok-added.added in
     let edges = c.deref.result.now in
-    let add = subst (λ xs. IsAddition s.rules.items s.arcs c.index-made-k.result.firing added.first added.met added.nodes xs) (sym c.deref.ensures.value)
+    let add = subst (λ xs. IsAddition (arc_value s.rules).items s.arcs c.index-made-k.result.firing added.first added.met added.nodes xs) (sym c.deref.ensures.value)
     (addition a added.first added.met added.nodes added.edges.items c.in_ok-added.ensures) in
     arcs_fit a added.first added.met added.nodes edges add
 
 pub grow-requires-clause-statuses : goal.grow-requires-clause-statuses
 grow-requires-clause-statuses c =
     let s = c.self.inside in
-    let M = machine_from s.rules.items s.start_nodes s.start_arcs s.limit s.arcs s.statuses s.fired.items s.journal.items s.stop in
+    let M = machine_from (arc_value s.rules).items s.start_nodes s.start_arcs s.limit s.arcs s.statuses s.fired.items s.journal.items s.stop in
     let same = ap (λ (x : MachineWithRoom). x.machine) c.self.view_is in
     let a = asked M c.args.self.now.machine s.entry s.exit s.start_arcs s.unique c.args.seat c.args.k c.args.work.now c.made.result.now c.index-made-k.result same c.self.invariant
     c.requires.going c.requires.few c.requires.claim c.requires.more c.requires.right c.made.ensures c.index-made-k.is in
@@ -74,7 +75,7 @@ grow-requires-clause-statuses c =
 pub overflow_add-k : goal.overflow_add-k
 overflow_add-k c =
     let s = c.self.inside in
-    let M = machine_from s.rules.items s.start_nodes s.start_arcs s.limit s.arcs s.statuses s.fired.items s.journal.items s.stop in
+    let M = machine_from (arc_value s.rules).items s.start_nodes s.start_arcs s.limit s.arcs s.statuses s.fired.items s.journal.items s.stop in
     let same = ap (λ (x : MachineWithRoom). x.machine) c.self.view_is in
     let a = asked M c.args.self.now.machine s.entry s.exit s.start_arcs s.unique c.args.seat c.args.k c.args.work.now c.made.result.now c.index-made-k.result same c.self.invariant
     c.requires.going c.requires.few c.requires.claim c.requires.more c.requires.right c.made.ensures c.index-made-k.is in
@@ -83,7 +84,7 @@ overflow_add-k c =
 pub publish-requires : goal.publish-requires
 publish-requires c =
     let s = c.self.inside in
-    let M = machine_from s.rules.items s.start_nodes s.start_arcs s.limit s.arcs s.statuses s.fired.items s.journal.items s.stop in
+    let M = machine_from (arc_value s.rules).items s.start_nodes s.start_arcs s.limit s.arcs s.statuses s.fired.items s.journal.items s.stop in
     let same = ap (λ (x : MachineWithRoom). x.machine) c.self.view_is in
     let a = asked M c.args.self.now.machine s.entry s.exit s.start_arcs s.unique c.args.seat c.args.k c.args.work.now c.made.result.now c.index-made-k.result same c.self.invariant
     c.requires.going c.requires.few c.requires.claim c.requires.more c.requires.right c.made.ensures c.index-made-k.is in (
@@ -95,13 +96,13 @@ publish-requires c =
 pub invariant_of-self-2 : goal.invariant_of-self-2
 invariant_of-self-2 c =
     let s = c.self.inside in
-    let M = machine_from s.rules.items s.start_nodes s.start_arcs s.limit s.arcs s.statuses s.fired.items s.journal.items s.stop in
+    let M = machine_from (arc_value s.rules).items s.start_nodes s.start_arcs s.limit s.arcs s.statuses s.fired.items s.journal.items s.stop in
     let same = ap (λ (x : MachineWithRoom). x.machine) c.self.view_is in
     let a = asked M c.args.self.now.machine s.entry s.exit s.start_arcs s.unique c.args.seat c.args.k c.args.work.now c.made.result.now c.index-made-k.result same c.self.invariant
     c.requires.going c.requires.few c.requires.claim c.requires.more c.requires.right c.made.ensures c.index-made-k.is in
     let added = c.in_ok-added.added in
     let edges = c.deref.result.now in
-    let add = subst (λ xs. IsAddition s.rules.items s.arcs c.index-made-k.result.firing added.first added.met added.nodes xs) (sym c.deref.ensures.value)
+    let add = subst (λ xs. IsAddition (arc_value s.rules).items s.arcs c.index-made-k.result.firing added.first added.met added.nodes xs) (sym c.deref.ensures.value)
     (addition a added.first added.met added.nodes added.edges.items c.in_ok-added.ensures) in
     let made = c.index-made-k.result in
     let seat = c.args.seat in
@@ -114,7 +115,7 @@ invariant_of-self-2 c =
     ∙ (λ j. c.in_ok-reserve-2.ensures.items j ++ record { firing = clone j; first = added.first; met = added.met } ∷ [])
     ∙ ap (λ (f : Fired). s.fired.items ++ f ∷ []) (its_fired a added.first added.met added.nodes edges add) in
     let journal = c.push_reserved-2.ensures.items ∙ ap (λ xs. xs ++ step.Publish seat ∷ []) c.in_ok-reserve.ensures.items in
-    let is = published s.rules.items s.start_nodes s.start_arcs s.limit s.arcs s.statuses s.fired.items s.journal.items s.stop made.firing seat c.args.work.now.arc k
+    let is = published (arc_value s.rules).items s.start_nodes s.start_arcs s.limit s.arcs s.statuses s.fired.items s.journal.items s.stop made.firing seat c.args.work.now.arc k
     c.grow.new.arcs c.publish.new.self c.push_reserved.new.self.items c.push_reserved-2.new.self.items
     c.self.invariant.arcs_is (c.in_ok-grow.ensures.arcs ∙ add.graph_is) table done journal in
     subst (λ (m : Machine). IsSound m s.entry s.exit s.start_arcs s.unique) (sym is) (still_sound a added.first added.met added.nodes edges add)
@@ -122,13 +123,13 @@ invariant_of-self-2 c =
 pub returns-clause-ok : goal.returns-clause-ok
 returns-clause-ok c =
     let s = c.self.inside in
-    let M = machine_from s.rules.items s.start_nodes s.start_arcs s.limit s.arcs s.statuses s.fired.items s.journal.items s.stop in
+    let M = machine_from (arc_value s.rules).items s.start_nodes s.start_arcs s.limit s.arcs s.statuses s.fired.items s.journal.items s.stop in
     let same = ap (λ (x : MachineWithRoom). x.machine) c.self.view_is in
     let a = asked M c.args.self.now.machine s.entry s.exit s.start_arcs s.unique c.args.seat c.args.k c.args.work.now c.made.result.now c.index-made-k.result same c.self.invariant
     c.requires.going c.requires.few c.requires.claim c.requires.more c.requires.right c.made.ensures c.index-made-k.is in
     let added = c.in_ok-added.added in
     let edges = c.deref.result.now in
-    let add = subst (λ xs. IsAddition s.rules.items s.arcs c.index-made-k.result.firing added.first added.met added.nodes xs) (sym c.deref.ensures.value)
+    let add = subst (λ xs. IsAddition (arc_value s.rules).items s.arcs c.index-made-k.result.firing added.first added.met added.nodes xs) (sym c.deref.ensures.value)
     (addition a added.first added.met added.nodes added.edges.items c.in_ok-added.ensures) in
     let made = c.index-made-k.result in
     let seat = c.args.seat in
@@ -141,7 +142,7 @@ returns-clause-ok c =
     ∙ (λ j. c.in_ok-reserve-2.ensures.items j ++ record { firing = clone j; first = added.first; met = added.met } ∷ [])
     ∙ ap (λ (f : Fired). s.fired.items ++ f ∷ []) (its_fired a added.first added.met added.nodes edges add) in
     let journal = c.push_reserved-2.ensures.items ∙ ap (λ xs. xs ++ step.Publish seat ∷ []) c.in_ok-reserve.ensures.items in
-    let is = published s.rules.items s.start_nodes s.start_arcs s.limit s.arcs s.statuses s.fired.items s.journal.items s.stop made.firing seat c.args.work.now.arc k
+    let is = published (arc_value s.rules).items s.start_nodes s.start_arcs s.limit s.arcs s.statuses s.fired.items s.journal.items s.stop made.firing seat c.args.work.now.arc k
     c.grow.new.arcs c.publish.new.self c.push_reserved.new.self.items c.push_reserved-2.new.self.items
     c.self.invariant.arcs_is (c.in_ok-grow.ensures.arcs ∙ add.graph_is) table done journal in (
       c.requires.going,

@@ -1,4 +1,5 @@
 use Rattle.std.proofs.Common.{◌≡◌, ◌<◌, ◌∙◌, refl, ap, sym, subst, slice_get, set, None}
+use Rattle.std.specs.Arc.{arc_value}
 use Rattle.qs_core.specs.declared.step.Step.TheVariants as step
 use Rattle.qs_core.specs.declared.step.Status.TheVariants as status
 use Rattle.qs_core.specs.Core.{IsFree, after_claim}
@@ -21,7 +22,7 @@ claim-requires-clause-free c =
 pub invariant_of-self : goal.invariant_of-self
 invariant_of-self c =
     let s = c.self.inside in
-    let M = machine_from s.rules.items s.start_nodes s.start_arcs s.limit s.arcs s.statuses s.fired.items s.journal.items s.stop in
+    let M = machine_from (arc_value s.rules).items s.start_nodes s.start_arcs s.limit s.arcs s.statuses s.fired.items s.journal.items s.stop in
     let same = ap (λ (x : MachineWithRoom). x.machine) c.self.view_is in
     let going = ap (λ (m : Machine). m.state.stop) same ∙ c.requires.going in
     let may : MayClaim M.base M.state c.args.seat c.args.arc = record {
@@ -31,8 +32,8 @@ invariant_of-self c =
       free = subst (λ (m : Machine). IsFree m.base m.state c.args.seat) (sym same) c.requires.free;
     } in
     let table = c.claim.ensures ∙ ap (λ (t : StatusTable). record { list = set t.list c.args.arc (status.Claimed c.args.seat 0); seats = t.seats }) c.rest.ensures.list in
-    let is : machine_from s.rules.items s.start_nodes s.start_arcs s.limit s.arcs c.claim.new.self s.fired.items c.push_reserved.new.self.items s.stop
+    let is : machine_from (arc_value s.rules).items s.start_nodes s.start_arcs s.limit s.arcs c.claim.new.self s.fired.items c.push_reserved.new.self.items s.stop
     ≡ with_step M (step.Claim c.args.seat c.args.arc) (after_claim M.state c.args.seat c.args.arc) =
-    (λ i. machine_from s.rules.items s.start_nodes s.start_arcs s.limit s.arcs (table i) s.fired.items (c.push_reserved.ensures.items i) s.stop) in
+    (λ i. machine_from (arc_value s.rules).items s.start_nodes s.start_arcs s.limit s.arcs (table i) s.fired.items (c.push_reserved.ensures.items i) s.stop) in
     subst (λ (m : Machine). IsSound m s.entry s.exit s.start_arcs s.unique) (sym is)
     (sound_step c.self.invariant going (step.Claim c.args.seat c.args.arc) (after_claim M.state c.args.seat c.args.arc) (may, refl))

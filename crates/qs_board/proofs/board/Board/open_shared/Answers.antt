@@ -2,7 +2,7 @@ use Rattle.std.proofs.Common.{◌<◌, ◌∙◌, ap, sym, rules, arith, slice_i
 use Rattle.qs_core.specs.Runs.{Machine, MachineWithRoom}
 use Rattle.qs_board.specs.History.{kept_base, history_of}
 use Rattle.qs_board.proofs.Turns.{get_some}
-use Rattle.qs_board.proofs.board.Board.open.Goals as goal
+use Rattle.qs_board.proofs.board.Board.open_shared.Goals as goal
 
 pub returns-clause-own : goal.returns-clause-own
 returns-clause-own c k d in_it =

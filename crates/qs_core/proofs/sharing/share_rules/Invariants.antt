@@ -1,5 +1,5 @@
 use Rattle.std.proofs.Common.{◌≡◌, take}
-use Rattle.qs_core.proofs.state.copies_of.Given as goal
+use Rattle.qs_core.proofs.sharing.share_rules.Given as goal
 
 abbrev pub invariant-loop-rule : goal.invariant-loop-rule
 invariant-loop-rule l = l.copies.items ≡ take l.rule-index l.rules
