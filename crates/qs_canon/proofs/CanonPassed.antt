@@ -15,7 +15,7 @@ abbrev pub held : List ℕ → List ℕ → ℕ
 held [] ks = 0
 held (x ∷ path) ks = times x ks + held path ks
 
-held_none : (path : List ℕ) → held path [] ≡ 0
+pub held_none : (path : List ℕ) → held path [] ≡ 0
 held_none [] = refl
 held_none (x ∷ path) = let e = held_none path in omega (arith, e)
 

@@ -3,6 +3,7 @@ use Rattle.std.proofs.Common.{◌≡◌, ℕ, zero, suc, ◌+◌, ◌-◌, ◌<�
 use Rattle.std.specs.Prelude.{if◌then◌else◌, ◌==◌, is_some}
 use Rattle.std.proofs.lemmas.Bool.{cases_eq, cases_lt, ne_eqb}
 use Rattle.std.proofs.lemmas.Option.{slice_get_within}
+use Rattle.qs_tree.proofs.Elements.{exists_at}
 use Rattle.qs_tree.specs.Lists.{◌∈◌}
 use Rattle.qs_tree.specs.Trees.{Tree}
 use Rattle.qs_pattern.specs.Rules.{Rule}
@@ -17,7 +18,6 @@ use Rattle.qs_firing.proofs.Within.{arc_stays, within_trans, within_adds, length
 use Rattle.qs_core.specs.Growth.{Grown, DoneAt, AllApart}
 use Rattle.qs_core.specs.Core.{Fired, fired}
 use Rattle.qs_core.specs.Runs.{Machine}
-use Rattle.qs_core.proofs.Runs.{exists_at}
 use Rattle.qs_canon.specs.declared.numbers.Numbers.{Numbers}
 use Rattle.qs_canon.specs.Rounds.{Stage, Done, firings, after}
 use Rattle.qs_canon.specs.working.Same.{width}

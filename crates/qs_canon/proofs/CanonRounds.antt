@@ -35,9 +35,10 @@ use Rattle.qs_canon.proofs.Same.{turned_arc}
 use Rattle.qs_canon.proofs.Rounds.{length-after}
 use Rattle.qs_canon.proofs.Law.{arc_low}
 use Rattle.qs_canon.proofs.CanonNumbers.{table_within, if_eq}
-use Rattle.qs_canon.proofs.CanonPassed.{held, uses_held, in_times, times_in, held_low, held_all, all_held, each_once, in_take, take_in, in_drop, same_first, first_few, path_there, uses_all}
+use Rattle.qs_canon.proofs.CanonPassed.{held, uses_held, in_times, times_in, held_low, held_all, all_held, each_once, in_take, take_in, in_drop, same_first, first_few, path_there, uses_all, held_none}
 use Rattle.qs_canon.proofs.CanonCounts.{times-take}
 use Rattle.qs_canon.proofs.Canonical as canonical
+use Rattle.qs_canon.proofs.Counting.{from_long}
 
 -- ---- members of a list in another order
 
@@ -250,15 +251,11 @@ module _ (M : Machine) (users : List (Vec ℕ Global)) (now : Numbers) (missing 
       counted : get_or missing i 0 + held d.firing.path (take passed origins) ≡ length d.firing.path
       counted = passed_uses i d at
 
-      held_empty : (path : List ℕ) → held path [] ≡ 0
-      held_empty [] = refl
-      held_empty (k ∷ path) = let e = held_empty path in omega (arith, e)
-
       cases : ((n ≡ 0) × (passed ≡ 0))
           ⊎ ((m : ℕ) × (B : Stage) × (F : List Firing) × (n ≡ suc m) × Rounds R G m B × Round R B.graph (firings B) F × (S ≡ after R (suc m) B F) × (passed ≡ length B.graph.arcs))
           → (get_or missing i 0 ≡ 0) ↔ (in_numbers d.firing ls ∈ firings S)
       cases (inl (z, p)) = (
-        λ e. let h : held d.firing.path (take passed origins) ≡ 0 = ap (λ m. held d.firing.path (take m origins)) p ∙ held_empty d.firing.path in
+        λ e. let h : held d.firing.path (take passed origins) ≡ 0 = ap (λ m. held d.firing.path (take m origins)) p ∙ held_none d.firing.path in
             absurd (omega (arith, counted, h, e, path_long i d at)),
         λ j. let s : S ≡ record { graph = G; done = [] } = subst (λ m. Rounds R G m S) z x.between.reached in
             absurd (subst (λ (X : Stage). in_numbers d.firing ls ∈ firings X) s j),
@@ -504,10 +501,6 @@ from_own n zero l h = absurd (omega arith)
 from_own n (suc m) zero h = let e : n ≡ n + 0 = omega arith in ap (λ (k : ℕ). Some k) e
 from_own n (suc m) (suc l) h = let e : n + 1 + l ≡ n + suc l = omega arith in from_own (n + 1) m l (omega (arith, h)) ∙ ap (λ (k : ℕ). Some k) e
 
-long_on : (n m : ℕ) → length (from_on n m) ≡ m
-long_on n zero = refl
-long_on n (suc m) = ap suc (long_on (n + 1) m)
-
 module _ (M : Machine) (finished : IsFinished M) (users : List (Vec ℕ Global)) (users_are : AreUsers (paths_of M.state.done) users) (missing : List ℕ)
     (lengths : missing ≡ map (λ (path : List ℕ). length path) (paths_of M.state.done)) (now : Numbers) (between : IsBetween M now.arcs.items now.nodes.items 0 (stage_now now))
     (origins_are : now.origins.items ≡ from_on 0 (length M.base.start.arcs)) where
@@ -534,7 +527,7 @@ module _ (M : Machine) (finished : IsFinished M) (users : List (Vec ℕ Global))
   origin_back k l at =
       let there : slice_get (from_on 0 (length M.base.start.arcs)) l ≡ Some k = ap (λ (ks : List ℕ). slice_get ks l) (sym origins_are) ∙ at in
       let h = slice_get_within (from_on 0 (length M.base.start.arcs)) l k there in
-      let low : l < length M.base.start.arcs = omega (arith, h, long_on 0 (length M.base.start.arcs)) in
+      let low : l < length M.base.start.arcs = omega (arith, h, from_long 0 (length M.base.start.arcs)) in
       let d : Some (0 + l) ≡ Some k = sym (from_own 0 (length M.base.start.arcs) l low) ∙ there in
       let e : 0 + l ≡ k = cc in
       let is : k ≡ l = omega (arith, e) in
@@ -546,7 +539,7 @@ module _ (M : Machine) (finished : IsFinished M) (users : List (Vec ℕ Global))
     users_are = users_are;
     between = between;
     traced = record {
-      each = ap (λ (ks : List ℕ). length ks) origins_are ∙ long_on 0 (length M.base.start.arcs) ∙ ap (λ (arcs : List Arc). length arcs) (sym edges_are);
+      each = ap (λ (ks : List ℕ). length ks) origins_are ∙ from_long 0 (length M.base.start.arcs) ∙ ap (λ (arcs : List Arc). length arcs) (sym edges_are);
       origin = λ k l. (origin_there k l, origin_back k l);
     };
     before = inl (refl, refl);

@@ -18,14 +18,14 @@ use Rattle.qs_canon.specs.working.CanonSteps.{stage_of, IsBetween}
 use Rattle.qs_canon.proofs.Canonical.{table_opening, nodes_opening}
 
 -- one number more
+pub from_on-more : (n m : ℕ) → from_on n (suc m) ≡ from_on n m ++ (n + m) ∷ []
+from_on-more n zero = let e : n ≡ n + 0 = omega arith in ap (λ (k : ℕ). k ∷ []) e
+from_on-more n (suc m) =
+    let e : n + 1 + m ≡ n + suc m = omega arith in
+    ap (λ ks. n ∷ ks) (from_on-more (n + 1) m ∙ ap (λ (k : ℕ). from_on (n + 1) m ++ k ∷ []) e)
+
 pub from_on-push : (n m : ℕ) → from_on n (m + 1) ≡ from_on n m ++ (n + m) ∷ []
-from_on-push n m = let e : suc m ≡ m + 1 = omega arith in subst (λ (k : ℕ). from_on n k ≡ from_on n m ++ (n + m) ∷ []) e (there n m)
-  where
-    there : (n m : ℕ) → from_on n (suc m) ≡ from_on n m ++ (n + m) ∷ []
-    there n zero = let e : n ≡ n + 0 = omega arith in ap (λ (k : ℕ). k ∷ []) e
-    there n (suc m) =
-        let e : n + 1 + m ≡ n + suc m = omega arith in
-        ap (λ ks. n ∷ ks) (there (n + 1) m ∙ ap (λ (k : ℕ). from_on (n + 1) m ++ k ∷ []) e)
+from_on-push n m = let e : suc m ≡ m + 1 = omega arith in subst (λ (k : ℕ). from_on n k ≡ from_on n m ++ (n + m) ∷ []) e (from_on-more n m)
 
 pub from_own : (m : ℕ) → from_on 0 m ++ m ∷ [] ≡ from_on 0 (m + 1)
 from_own m = let e : m ≡ 0 + m = omega arith in ap (λ (k : ℕ). from_on 0 m ++ k ∷ []) e ∙ sym (from_on-push 0 m)

@@ -7,7 +7,7 @@ use Rattle.std.proofs.lemmas.Bool.{cases_lt, ltb-true, ltb-false, leb-true, leb-
 use Rattle.qs_tree.specs.Lists.{◌∈◌}
 use Rattle.qs_tree.proofs.Members.{in_append_left, in_append_right, from_append}
 use Rattle.qs_pattern.specs.Rules.{Rule}
-use Rattle.qs_graph.specs.Graphs.{Arc, QGraph, Leads}
+use Rattle.qs_graph.specs.Graphs.{Arc, QGraph}
 use Rattle.qs_firing.specs.Firings.{Firing, Fires}
 use Rattle.qs_firing.specs.Adding.{adds, met, from_on, result_by, result_arcs, start_of, end_of}
 use Rattle.qs_firing.proofs.Merging.{arc, least_is, meeting}
@@ -21,12 +21,12 @@ use Rattle.qs_canon.specs.working.Same.{width, SameArc, SamePath, SameNode, Same
 use Rattle.qs_canon.specs.working.CanonTables.{IsNextOf, IsRecorded, Table, opening_table, opening_nodes, new_nodes, IsNodeTable, numbered, AreNumbered, IsTable, in_numbers, IsNextBy, IsUnderWay}
 use Rattle.qs_canon.proofs.Histories.{stands, at_of, in_of, adding}
 use Rattle.qs_canon.proofs.Same.{one_arc, one_node, turned_arc, turned_path, turned_node, turned_firing}
-use Rattle.qs_canon.proofs.Results.{in_from_on}
 use Rattle.qs_canon.proofs.Carried.{all_arcs, all_nodes, carried_fires, carried_start, carried_path, same_length, closed_partners, image_over, same_results, Partner}
 use Rattle.qs_canon.proofs.Reached.{same_more, same_node_more, after_within}
 use Rattle.qs_canon.proofs.Stages.{rounds_grown, rounds_apart, firings-one, firings-after, grown_after, closes_all}
 use Rattle.qs_canon.proofs.Law.{arc_low, node_low, are_same_with, no_more}
-use Rattle.qs_canon.proofs.Counting.{fewer_numbers}
+use Rattle.qs_canon.proofs.Counting.{fewer_numbers, from_in}
+use Rattle.qs_graph.proofs.Paths.{leads_low}
 
 module _ (R : List Rule) (G : QGraph) (ends : (arc : Arc) → arc ∈ G.arcs → (arc.from ≤ G.nodes) × (arc.to ≤ G.nodes))
     (fs : List Firing) (H : QGraph) (grown : Grown R G fs H) (once : AllApart fs) (closed : (f : Firing) → Fires R H.arcs f → f ∈ fs)
@@ -50,11 +50,6 @@ module _ (R : List Rule) (G : QGraph) (ends : (arc : Arc) → arc ∈ G.arcs →
           (all_arcs R G ends (firings S) fs S.graph H g grown once (closed_partners R G ends (firings S) fs S.graph H g grown once closed)) in
           let s : SameFiring R G (firings S) fs S.graph H h (record { rule = h.rule; path = y.path; values = h.values }) = record { rule = refl; values = refl; path = y.same } in
           x.all (record { rule = h.rule; path = y.path; values = h.values }) h (closed (record { rule = h.rule; path = y.path; values = h.values }) y.fires) (turned_firing s)
-
-leads_low : (arcs : List Arc) (a : ℕ) (ks : List ℕ) (b : ℕ) → Leads arcs a ks b → (k : ℕ) → k ∈ ks → k < length arcs
-leads_low arcs a [] b l k i = absurd i
-leads_low arcs a (j ∷ ks) b (arc, is, e, l) k (inl d) = subst (λ n. n < length arcs) (sym d) (slice_get_within arcs j arc is)
-leads_low arcs a (j ∷ ks) b (arc, is, e, l) k (inr i) = leads_low arcs arc.to ks b l k i
 
 -- numbers given in order
 module _ (Rel : ℕ → ℕ → Type 0) where
@@ -299,7 +294,7 @@ module _ (R : List Rule) (G : QGraph) (fs : List Firing) (H : QGraph) (X : IsRec
               let low : m ≤ K'.nodes = node_low R G more fs K' H grown'' (turned_node s) in
               let (u, w) = adding R K g (m - K.nodes) (omega arith) in
               let me : K.nodes + 1 + (m - K.nodes - 1) ≡ m = omega arith in
-              let i : m ∈ new_nodes R K g = subst (λ x. x ∈ new_nodes R K g) me (in_from_on (K.nodes + 1) (width R g - 1) (m - K.nodes - 1) (omega arith)) in
+              let i : m ∈ new_nodes R K g = subst (λ x. x ∈ new_nodes R K g) me (from_in (K.nodes + 1) (width R g - 1) (m - K.nodes - 1) (omega arith)) in
               numbered_new (SameNode R G fs more H K') one_n apart_n (new_nodes R P f) (new_nodes R K g) N each_new n m i s
 
       -- an arc with the number of one of K had that number
@@ -367,7 +362,7 @@ module _ (R : List Rule) (G : QGraph) (fs : List Firing) (H : QGraph) (X : IsRec
               let low : l < length K'.arcs = arc_low R G more fs K' H grown'' (turned_arc s) in
               let (u, w) = adding R K g (l - length K.arcs) (omega (arith, length-adds R K g)) in
               let le : length K.arcs + (l - length K.arcs) ≡ l = omega arith in
-              let i : l ∈ from_on (length K.arcs) (width R g) = subst (λ x. x ∈ from_on (length K.arcs) (width R g)) le (in_from_on (length K.arcs) (width R g) (l - length K.arcs) w) in
+              let i : l ∈ from_on (length K.arcs) (width R g) = subst (λ x. x ∈ from_on (length K.arcs) (width R g)) le (from_in (length K.arcs) (width R g) (l - length K.arcs) w) in
               let j : l ∈ result_arcs R K g = subst (λ xs. l ∈ xs) (sym (ap (λ o. result_by o (length K.arcs) (width R g)) u)) i in
               numbered_new (SameArc R G fs more H K') one' apart' (result_arcs R P f) (result_arcs R K g) T (path_each results) k l j s
 

@@ -1,29 +1,26 @@
 -- A graph that grew is carried into one, from the same start, in which all firings are done.
-use Rattle.std.proofs.Common.{◌≡◌, ℕ, zero, suc, ◌+◌, ◌<◌, ◌≤◌, true, false, List, [], ◌∷◌, length, map, refl, sym, ◌∙◌, ap, subst, ⊎_elim, arith, Some, slice_get}
-use Rattle.std.specs.List.{cons_option}
+use Rattle.std.proofs.Common.{◌≡◌, ℕ, zero, suc, ◌+◌, ◌<◌, ◌≤◌, true, false, List, [], ◌∷◌, length, refl, sym, ◌∙◌, ap, subst, ⊎_elim, arith, Some, slice_get}
 use Rattle.std.proofs.lemmas.Option.{slice_get_within}
 use Rattle.qs_tree.specs.Lists.{◌∈◌}
 use Rattle.qs_tree.proofs.Members.{in_at}
 use Rattle.qs_pattern.specs.Instances.{IsMatch}
 use Rattle.qs_pattern.specs.Rules.{Rule, all_unique}
-use Rattle.qs_graph.specs.Graphs.{Arc, QGraph, Leads, IsPath, arcs_at, trees_on}
+use Rattle.qs_graph.specs.Graphs.{Arc, QGraph, Leads, IsPath, trees_on}
 use Rattle.qs_graph.specs.Chains.{chain}
 use Rattle.qs_firing.specs.Firings.{Firing, Fires}
 use Rattle.qs_firing.specs.Adding.{built, start_of, end_of, from_on, result_by, result_arcs}
 use Rattle.qs_firing.proofs.Merging.{not_unique}
-use Rattle.qs_firing.proofs.Within.{IsWithin, arc_stays, leads_stays, within_trans, within_length, within_adds, fires_stays}
+use Rattle.qs_firing.proofs.Within.{IsWithin, arc_stays, leads_stays, within_trans, within_length, within_adds, fires_stays, trees_from}
 use Rattle.qs_core.specs.Growth.{Grown, DoneAt, AllApart, NoTwins}
 use Rattle.qs_core.proofs.Growth.{start_is, end_is, grown_within}
 use Rattle.qs_core.proofs.Twins.{HasEnds, no_twins}
 use Rattle.qs_canon.specs.working.Same.{width, SameArc, SamePath, SameFiring, SameNode, of_start, of_firing, of_ends, no_arc, and_arc, node_of_start, node_of_firing}
 use Rattle.qs_canon.proofs.Histories.{stands, arc_origin, ArcOrigin, node_origin, NodeOrigin, at_of}
 use Rattle.qs_canon.proofs.Same.{one_node, built_same}
-use Rattle.qs_canon.proofs.Results.{arc_back, chain_related, added_at, of_path, in_from_on, same_results_by}
+use Rattle.qs_canon.proofs.Results.{arc_back, chain_related, added_at, of_path, same_results_by}
+use Rattle.qs_canon.proofs.Counting.{from_in}
 
 -- the trees of a path are that of its first arc and those of the rest
-trees_from : (arcs : List Arc) (k : ℕ) (ks : List ℕ) (arc : Arc) → slice_get arcs k ≡ Some arc → trees_on arcs (k ∷ ks) ≡ arc.tree ∷ trees_on arcs ks
-trees_from arcs k ks arc is = ap (λ o. map (λ (arc : Arc). arc.tree) (cons_option o (arcs_at arcs ks))) is
-
 -- a path has the ends that it had
 same_ends : {P H : QGraph} → IsWithin P H → (path : List ℕ) → {x y a b : ℕ} → IsPath P.arcs x path y → IsPath H.arcs a path b → (start_of P.arcs path ≡ a) × (end_of P.arcs path ≡ b)
 same_ends {P} {H} w path {x = x} {y = y} {a = a} {b = b} p q =
@@ -169,7 +166,7 @@ module _ (R : List Rule) (G : QGraph) (ends : HasEnds G)
   arc_from k o p =
       let e : result_arcs R o.to o.by ≡ from_on (length o.to.arcs) (width R o.by) = ap (λ x. result_by x (length o.to.arcs) (width R o.by)) o.unmet in
       of_path R G fs gs H K (same_results o.by p.other o.to p.to o.at p.at p.same) k
-      (subst (λ ks. k ∈ ks) (sym e) (subst (λ n. n ∈ from_on (length o.to.arcs) (width R o.by)) (sym o.is) (in_from_on (length o.to.arcs) (width R o.by) o.place o.within)))
+      (subst (λ ks. k ∈ ks) (sym e) (subst (λ n. n ∈ from_on (length o.to.arcs) (width R o.by)) (sym o.is) (from_in (length o.to.arcs) (width R o.by) o.place o.within)))
 
   module _ (partners : (f : Firing) (P : QGraph) → DoneAt R G fs f P → Partner f) where
     -- each arc of H is an arc of K

@@ -25,7 +25,7 @@ from_low n zero k i = absurd i
 from_low n (suc m) k (inl e) = (omega arith, omega arith)
 from_low n (suc m) k (inr i) = let (a, b) = from_low (n + 1) m k i in (omega (arith, a), omega (arith, b))
 
-from_in : (n m j : ℕ) → j < m → (n + j) ∈ from_on n m
+pub from_in : (n m j : ℕ) → j < m → (n + j) ∈ from_on n m
 from_in n zero j h = absurd (omega arith)
 from_in n (suc m) zero h = inl (omega arith)
 from_in n (suc m) (suc j) h = let e : n + 1 + j ≡ n + suc j = omega arith in inr (subst (λ x. x ∈ from_on (n + 1) m) e (from_in (n + 1) m j (omega arith)))
@@ -34,7 +34,7 @@ from_apart : (n m : ℕ) → AllApart (from_on n m)
 from_apart n zero = tt
 from_apart n (suc m) = ((λ i. let (a, b) = from_low (n + 1) m n i in omega (arith, a)), from_apart (n + 1) m)
 
-from_long : (n m : ℕ) → length (from_on n m) ≡ m
+pub from_long : (n m : ℕ) → length (from_on n m) ≡ m
 from_long n zero = refl
 from_long n (suc m) = let e = from_long (n + 1) m in omega (arith, e)
 

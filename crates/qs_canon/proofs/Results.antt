@@ -1,6 +1,7 @@
 -- The results of firings that are the same are the same, in order.
 use Rattle.std.proofs.Common.{◌≡◌, ℕ, zero, suc, ◌+◌, ◌<◌, ◌≤◌, Bool, true, false, List, [], ◌∷◌, ◌++◌, length, refl, sym, ◌∙◌, ap, subst, inl, inr, ⊎_elim, arith, Option, Some, None, slice_get}
 use Rattle.std.proofs.lemmas.Bool.{cases_lt}
+use Rattle.qs_tree.proofs.Elements.{exists_at}
 use Rattle.qs_tree.specs.Lists.{◌∈◌}
 use Rattle.qs_tree.specs.Trees.{Tree}
 use Rattle.qs_tree.proofs.Members.{in_at}
@@ -14,7 +15,6 @@ use Rattle.qs_firing.proofs.Merging.{arc, least_is, least_low, Meeting, meeting,
 use Rattle.qs_firing.proofs.Within.{IsWithin, arc_stays, within_trans, within_adds, within_length}
 use Rattle.qs_core.specs.Growth.{Grown, DoneAt}
 use Rattle.qs_core.proofs.Twins.{HasEnds}
-use Rattle.qs_core.proofs.Runs.{exists_at}
 use Rattle.qs_canon.specs.working.Same.{width, SameArc, SamePath, SameFiring, SameNode, of_start, of_firing, of_ends, no_arc, and_arc, node_of_start, node_of_firing}
 use Rattle.qs_canon.proofs.Histories.{stands}
 use Rattle.qs_canon.proofs.Same.{built_same, turned_path, turned_node, turned_firing}
@@ -93,11 +93,6 @@ module _ (R : List Rule) (G : QGraph) (fs gs : List Firing) (H K : QGraph) where
   pub node_is_start : Grown R G fs H → {n m : ℕ} → SameNode R G fs gs H K n m → n ≤ G.nodes → n ≡ m
   node_is_start grown (node_of_start low e) h = e
   node_is_start grown (node_of_firing f g P Q i fa ga r v p some w ne me) h = absurd (omega (arith, (stands R G fs H f P grown fa).before.nodes))
-
-pub in_from_on : (n m j : ℕ) → j < m → (n + j) ∈ from_on n m
-in_from_on n zero j h = absurd (omega arith)
-in_from_on n (suc m) zero h = inl (omega arith)
-in_from_on n (suc m) (suc j) h = let e : n + 1 + j ≡ n + suc j = omega arith in inr (subst (λ x. x ∈ from_on (n + 1) m) e (in_from_on (n + 1) m j (omega arith)))
 
 -- two firings that are the same, with the same ends
 module _ (R : List Rule) (G : QGraph) (ends : HasEnds G) (fs gs : List Firing) (H K : QGraph) (grown : Grown R G fs H) (grown' : Grown R G gs K)

@@ -1,5 +1,5 @@
 -- What is made of arcs and of marks, member by member.
-use Rattle.std.proofs.Common.{◌≡◌, ◌⊎◌, ℕ, zero, suc, ◌+◌, ◌<◌, Bool, false, true, ◌&&◌, not, List, [], ◌∷◌, ◌++◌, length, map, get_or, slice_get, Option, Some, None, refl, sym, ◌∙◌, ap, subst, inl, inr, ⊎_elim, arith, append_assoc}
+use Rattle.std.proofs.Common.{◌≡◌, ◌⊎◌, ℕ, zero, suc, ◌+◌, Bool, false, true, ◌&&◌, not, List, [], ◌∷◌, ◌++◌, length, map, get_or, slice_get, Option, Some, None, refl, sym, ◌∙◌, ap, subst, inl, inr, ⊎_elim, arith, append_assoc}
 use Rattle.std.specs.Prelude.{if◌then◌else◌}
 use Rattle.std.specs.List.{cons_option}
 use Rattle.std.proofs.lemmas.List.{length_push}
@@ -13,11 +13,7 @@ use Rattle.qs_clean.specs.working.Links.{Reaches, here, onward, turned}
 use Rattle.qs_clean.specs.working.Steps.{each_pair, free_link, keeps_mark, marked, numbered_arc, if_kept}
 use Rattle.qs_clean.proofs.Exploring.{reaches_more}
 use Rattle.qs_clean.proofs.Places.{places}
-
-pub some_within : {X : Type 0} (xs : List X) (k : ℕ) → k < length xs → (x : X) × (slice_get xs k ≡ Some x)
-some_within [] k l = absurd (omega arith)
-some_within (x ∷ xs) zero l = (x, refl)
-some_within (x ∷ xs) (suc k) l = some_within xs k (omega arith)
+use Rattle.qs_firing.proofs.Merging.{at_seam}
 
 -- the arcs of these numbers
 module _ (arcs : List Arc) where
@@ -46,10 +42,6 @@ module _ (arcs : List Arc) where
 abbrev pub chosen : List Arc → List Bool → List Arc
 chosen arcs marks = each_pair (λ arc mark. if mark then arc ∷ [] else []) arcs marks
 
-slice_get_behind : {X : Type 0} (before : List X) (x : X) (xs : List X) → slice_get (before ++ x ∷ xs) (length before) ≡ Some x
-slice_get_behind [] x xs = refl
-slice_get_behind (y ∷ before) x xs = slice_get_behind before x xs
-
 arcs_behind : (before arcs : List Arc) (marks : List Bool) → length marks ≡ length arcs → arcs_at (before ++ arcs) (places (length before) marks) ≡ chosen arcs marks
 arcs_behind before [] [] e = refl
 arcs_behind before [] (m ∷ marks) e = absurd (omega arith)
@@ -57,7 +49,7 @@ arcs_behind before (arc ∷ arcs) [] e = absurd (omega arith)
 arcs_behind before (arc ∷ arcs) (true ∷ marks) e =
     let rest : arcs_at ((before ++ arc ∷ []) ++ arcs) (places (length (before ++ arc ∷ [])) marks) ≡ chosen arcs marks = arcs_behind (before ++ arc ∷ []) arcs marks (omega arith) in
     let rest' : arcs_at (before ++ arc ∷ arcs) (places (length before + 1) marks) ≡ chosen arcs marks = rw (append_assoc before (arc ∷ []) arcs, length_push before arc) at rest in
-    ap (λ o. cons_option o (arcs_at (before ++ arc ∷ arcs) (places (length before + 1) marks))) (slice_get_behind before arc arcs) ∙ ap (λ (more : List Arc). arc ∷ more) rest'
+    ap (λ o. cons_option o (arcs_at (before ++ arc ∷ arcs) (places (length before + 1) marks))) (at_seam before arc arcs) ∙ ap (λ (more : List Arc). arc ∷ more) rest'
 arcs_behind before (arc ∷ arcs) (false ∷ marks) e =
     let rest : arcs_at ((before ++ arc ∷ []) ++ arcs) (places (length (before ++ arc ∷ [])) marks) ≡ chosen arcs marks = arcs_behind (before ++ arc ∷ []) arcs marks (omega arith) in
     rw (append_assoc before (arc ∷ []) arcs, length_push before arc) at rest

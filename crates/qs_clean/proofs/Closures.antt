@@ -1,9 +1,8 @@
 -- What a closure over a valid graph gives its cleaning.
-use Rattle.std.proofs.Common.{◌≡◌, ◌↔◌, ℕ, ◌<◌, ◌≤◌, Bool, false, true, List, [], ◌∷◌, length, map, get_or, refl, sym, ◌∙◌, ap, subst, inl, inr, ⊎_elim, arith}
+use Rattle.std.proofs.Common.{◌≡◌, ◌↔◌, ℕ, ◌<◌, ◌≤◌, Bool, false, true, List, [], ◌∷◌, length, map, get_or, refl, sym, ◌∙◌, ap, subst, inl, ⊎_elim, arith}
 use Rattle.std.proofs.lemmas.Bool.{cases_lt}
-use Rattle.std.proofs.lemmas.Option.{slice_get_within}
 use Rattle.qs_tree.specs.Lists.{◌∈◌}
-use Rattle.qs_graph.specs.Graphs.{Arc, QGraph, Leads, IsNode, IsEntry, IsExit, IsValid}
+use Rattle.qs_graph.specs.Graphs.{QGraph, IsNode, IsEntry, IsExit, IsValid}
 use Rattle.qs_tree.proofs.Members.{in_at, mapped, in_map}
 use Rattle.qs_firing.specs.Firings.{Firing}
 use Rattle.qs_canon.specs.Rounds.{Stage, Done, firings}
@@ -15,11 +14,7 @@ use Rattle.qs_clean.specs.working.Steps.{IsUsed, each_pair, free_link, keeps_mar
 use Rattle.qs_clean.specs.Cleaning.{IsClosureOfValid, IsDenoted}
 use Rattle.qs_clean.proofs.Places.{marked_le, marked_lt, in_both_from, length-both}
 use Rattle.qs_clean.proofs.ArcLists.{FreeArc, free_from_link, length-keeps, not_kept, reaches_last}
-
-pub leads_within : (arcs : List Arc) (a : ℕ) (path : List ℕ) (b : ℕ) → Leads arcs a path b → (k : ℕ) → k ∈ path → k < length arcs
-leads_within arcs a [] b l k i = absurd i
-leads_within arcs a (j ∷ path) b (arc, is, e, l) k (inl s) = omega (arith, slice_get_within arcs j arc is)
-leads_within arcs a (j ∷ path) b (arc, is, e, l) k (inr i) = leads_within arcs arc.to path b l k i
+use Rattle.qs_graph.proofs.Paths.{leads_low}
 
 some_in_path : (path : List ℕ) → 0 < length path → (k : ℕ) × (k ∈ path)
 some_in_path [] l = absurd (omega arith)
@@ -63,7 +58,7 @@ module _ (c : ClosureOf) (is : IsClosureOfValid c) where
   pub path_within : (d : Done) → d ∈ S.done → (k : ℕ) → k ∈ d.firing.path → k < length S.graph.arcs
   path_within d i k j =
       let p = keeps.paths d.firing (done_firing d i) in
-      leads_within S.graph.arcs p.from d.firing.path p.to p.is.leads k j
+      leads_low S.graph.arcs p.from d.firing.path p.to p.is.leads k j
 
   module _ (denoted : List Bool) (links : List Link) (are : links ≡ each_pair free_link S.graph.arcs denoted) where
     link_arc : (link : Link) → link ∈ links → FreeArc S.graph.arcs denoted link.from link.to

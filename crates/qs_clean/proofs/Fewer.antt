@@ -8,7 +8,7 @@ use Rattle.qs_tree.proofs.Members.{in_at, mapped}
 use Rattle.qs_canon.specs.Rounds.{Stage}
 use Rattle.qs_clean.specs.Cleaning.{Cleans, renumbered}
 use Rattle.qs_clean.proofs.ArcLists.{in_arcs_at}
-use Rattle.qs_clean.proofs.Closures.{leads_within}
+use Rattle.qs_graph.proofs.Paths.{leads_low}
 
 -- so many numbers fit between two
 ascend_fit : (low high : ℕ) (ns : List ℕ) → Ascends ◌<◌ ns → low ≤ high → ((n : ℕ) → n ∈ ns → (low ≤ n) × (n < high)) → low + length ns ≤ high
@@ -29,7 +29,7 @@ module _ (S : Stage) (H : QGraph) (cleans : Cleans S H) where
   kept_within : (k : ℕ) → k ∈ cleans.kept → (0 ≤ k) × (k < length S.graph.arcs)
   kept_within k i =
       let s = (cleans.kept_are k).0 i in
-      (omega arith, leads_within S.graph.arcs s.entry s.path s.exit s.leads.leads k s.on)
+      (omega arith, leads_low S.graph.arcs s.entry s.path s.exit s.leads.leads k s.on)
 
   pub fewer_arcs : length H.arcs ≤ length S.graph.arcs
   fewer_arcs = omega (

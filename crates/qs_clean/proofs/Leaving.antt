@@ -12,10 +12,10 @@ use Rattle.qs_clean.specs.working.Links.{Reaches, turned}
 use Rattle.qs_clean.specs.working.Steps.{each_pair, free_link, AreMarks}
 use Rattle.qs_clean.specs.Cleaning.{IsDenoted, Cleans, IsLeft}
 use Rattle.qs_clean.proofs.ArcLists.{free_from_link, reaches_last}
-use Rattle.qs_clean.proofs.Closures.{leads_within}
 use Rattle.qs_clean.proofs.Renumbered.{new_arcs, new_graph, none_left, graph_left, graph_valid}
 use Rattle.qs_clean.proofs.MarkDecisions.{marks_from, length-marks, marks_are, decide_denoted, decide_reaches}
 use Rattle.qs_clean.proofs.Outcomes.{one_clean}
+use Rattle.qs_graph.proofs.Paths.{leads_low}
 
 -- links between nodes lead to nodes alone
 reached_node : (G : QGraph) (links : List Link) → ((link : Link) → link ∈ links → IsNode G link.to) → (a n : ℕ) → IsNode G a → Reaches links a n → n < G.nodes + 1
@@ -47,7 +47,7 @@ module _ (S : Stage) (valid : IsValid S.graph) (paths : (f : Firing) → f ∈ f
   to_exit = marks_from (λ n. Reaches back exit n) (λ n. decide_reaches back exit n) 0 (S.graph.nodes + 1)
 
   denoted_within : (k : ℕ) → IsDenoted S k → k < length S.graph.arcs
-  denoted_within k d = let p = paths d.by d.done in leads_within S.graph.arcs p.from d.by.path p.to p.is.leads k d.used
+  denoted_within k d = let p = paths d.by d.done in leads_low S.graph.arcs p.from d.by.path p.to p.is.leads k d.used
 
   link_nodes : (link : Link) → link ∈ links → IsNode S.graph link.from × IsNode S.graph link.to
   link_nodes link i =

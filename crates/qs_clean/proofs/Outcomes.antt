@@ -9,7 +9,7 @@ use Rattle.qs_clean.specs.Cascades.{Cascade, Left, Ending, a_graph, no_arc, no_m
 use Rattle.qs_firing.proofs.Ascending.{same_ascending}
 use Rattle.qs_canon.proofs.Rounds.{one_closure, not_both}
 
-lt-asym : (m n : ℕ) → m < n → n < m → ⊥
+pub lt-asym : (m n : ℕ) → m < n → n < m → ⊥
 lt-asym m n a b = omega arith
 
 pub one_clean : (S : Stage) (G H : QGraph) → Cleans S G → Cleans S H → G ≡ H

@@ -1,5 +1,6 @@
 -- Each stage that accepted rules reach from a valid graph has a support.
 use Rattle.std.proofs.Common.{◌≡◌, ◌⊎◌, ◌↔◌, ℕ, zero, suc, ◌-◌, ◌<◌, ◌≤◌, Bool, true, false, List, [], ◌∷◌, length, set, replicate, get_or, Option, Some, None, slice_get, refl, subst, inl, inr, ⊎_elim, arith}
+use Rattle.qs_tree.proofs.Elements.{exists_at}
 use Rattle.qs_tree.specs.Lists.{◌∈◌}
 use Rattle.qs_tree.proofs.Members.{in_at, in_map}
 use Rattle.qs_tree.proofs.Decisions.{true_false, decide_number, decide_at_most, decide_member, decide_either}
@@ -11,8 +12,6 @@ use Rattle.qs_canon.proofs.Keeping.{Keeps, keeps_rounds}
 use Rattle.qs_clean.specs.Cleaning.{Stays, IsLeft}
 use Rattle.qs_clean.specs.Marks.{IsMarked}
 use Rattle.qs_clean.proofs.Places.{places, places_ascend, in_places}
-use Rattle.qs_clean.proofs.ArcLists.{some_within}
-use Rattle.qs_clean.proofs.Closures.{leads_within}
 use Rattle.qs_clean.proofs.Exploring.{marked_within}
 use Rattle.qs_clean.proofs.MarkDecisions.{marks_from, length-marks, marks_are}
 use Rattle.qs_clean.proofs.CascadeExistence.{reached_left}
@@ -21,6 +20,7 @@ use Rattle.qs_explain.specs.Support.{SupportOf, IsSupport}
 use Rattle.qs_explain.proofs.Ranges.{between-from, between-in}
 use Rattle.qs_explain.proofs.Laid.{AreLaid, rounds_laid, laid-drop, next_low, met_cases}
 use Rattle.qs_explain.proofs.Supporting.{Supports, supports_start, supports_met, supports_none, supports_some, arc_marked, firing_marked}
+use Rattle.qs_graph.proofs.Paths.{leads_low}
 
 -- what can be decided of marks
 decide_marked : (marks : List Bool) (k : ℕ) → Dec (IsMarked marks k)
@@ -64,7 +64,7 @@ module _ (R : List Rule) (accepted : (rule : Rule) → rule ∈ R → IsAccepted
   path_in : (d : Done) → d ∈ S.done → (k : ℕ) → k ∈ d.firing.path → k < length S.graph.arcs
   path_in d i k j =
       let p = keeps.paths d.firing (in_map (λ (x : Done). x.firing) S.done d i) in
-      leads_within S.graph.arcs p.from d.firing.path p.to p.is.leads k j
+      leads_low S.graph.arcs p.from d.firing.path p.to p.is.leads k j
 
   -- the arcs that stay
   record KeptArcs : Type 0 where
@@ -96,7 +96,7 @@ module _ (R : List Rule) (accepted : (rule : Rule) → rule ∈ R → IsAccepted
     replicate (length S.done) false,
     supports_start S (marks_from (Stays S) decide_stays 0 (length S.graph.arcs)) (replicate (length S.done) false) (length S.done) (length S.graph.arcs)
         (length-marks (Stays S) decide_stays 0 (length S.graph.arcs))
-        (marks_are (Stays S) decide_stays (length S.graph.arcs) (λ k s. leads_within S.graph.arcs s.entry s.path s.exit s.leads.leads k s.on))
+        (marks_are (Stays S) decide_stays (length S.graph.arcs) (λ k s. leads_low S.graph.arcs s.entry s.path s.exit s.leads.leads k s.on))
         refl refl refl,
   )
 
@@ -136,7 +136,7 @@ module _ (R : List Rule) (accepted : (rule : Rule) → rule ∈ R → IsAccepted
   all_looked : (i : ℕ) → i ≤ length S.done → Looked i → Looked 0
   all_looked zero l h = h
   all_looked (suc i) l (behind, arcs, fired, h) =
-      let at = some_within S.done i (omega arith) in
+      let at = exists_at S.done i (omega arith) in
       all_looked i (omega arith) (one_looked i at.0 at.1 behind arcs fired h)
 
   pub something_supported : (s : SupportOf) × IsSupport S s

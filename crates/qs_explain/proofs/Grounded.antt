@@ -7,13 +7,15 @@ use Rattle.qs_firing.proofs.Ascending.{same_ascending}
 use Rattle.qs_canon.specs.Rounds.{Done, Stage}
 use Rattle.qs_canon.specs.Closures.{ClosureOf}
 use Rattle.qs_clean.specs.Cleaning.{IsClosureOfValid, Stays}
-use Rattle.qs_clean.proofs.Closures.{leads_within, path_within}
+use Rattle.qs_clean.proofs.Closures.{path_within}
+use Rattle.qs_clean.proofs.Outcomes.{lt-asym}
 use Rattle.qs_explain.specs.Support.{IsSupportedArc, IsSupportedFiring, next_first, added_first, it_stays, in_path, beside, added, path_at, added_at, SupportOf, IsSupport, WasAdded}
 use Rattle.qs_explain.specs.Texts.{numbers_text, rule_at, firing_comment}
 use Rattle.qs_graphtext.specs.Texts.{line}
 use Rattle.std.specs.Prelude.{codes, decimal}
 use Rattle.qs_firing.specs.Adding.{from_on}
 use Rattle.qs_explain.proofs.Laid.{drop_is, added-unmet, LaidFrom, rounds_laid, adding, added-low, was_added, path-low}
+use Rattle.qs_graph.proofs.Paths.{leads_low}
 
 -- the path at a place
 pub path_is : (S : Stage) (i : ℕ) (d : Done) → slice_get S.done i ≡ Some d → path_at S i ≡ d.firing.path
@@ -43,7 +45,7 @@ module _ (c : ClosureOf) (is : IsClosureOfValid c) where
   laid = rounds_laid is.rules is.accepted is.start is.closure.closes.rounds S is.closure.closes.reached
 
   pub stays_within : (k : ℕ) → Stays S k → k < length S.graph.arcs
-  stays_within k s = leads_within S.graph.arcs s.entry s.path s.exit s.leads.leads k s.on
+  stays_within k s = leads_low S.graph.arcs s.entry s.path s.exit s.leads.leads k s.on
 
   -- some firing is at a place that has a path
   path_done : (i k : ℕ) → k ∈ path_at S i → k < length S.graph.arcs
@@ -72,9 +74,6 @@ module _ (c : ClosureOf) (is : IsClosureOfValid c) where
         path_supported = λ j p. in_path f p;
         path_smaller = λ j p. path-low is.rules (length S.graph.arcs) S.done r.0 at.done k j laid.laid at.is r.1 (subst (λ ks. j ∈ ks) (path_is S r.0 at.done at.is) p);
       }
-
-lt-asym : (m n : ℕ) → m < n → n < m → ⊥
-lt-asym m n a b = omega arith
 
 pub one_support : (S : Stage) (s t : SupportOf) → IsSupport S s → IsSupport S t → s ≡ t
 one_support S s t a b =

@@ -7,12 +7,12 @@ use Rattle.qs_pattern.specs.Rules.{Rule, IsAccepted}
 use Rattle.qs_graph.specs.Graphs.{QGraph}
 use Rattle.qs_graph.specs.Chains.{chain}
 use Rattle.qs_graph.proofs.Lines.{length-chain}
+use Rattle.qs_graph.proofs.Paths.{leads_low}
 use Rattle.qs_firing.specs.Firings.{Firing}
 use Rattle.qs_firing.specs.Adding.{start_of, end_of, built, added, adds, met, first_arc, meets, from_on}
 use Rattle.qs_firing.proofs.Building.{built_some}
 use Rattle.qs_firing.proofs.Merging.{met-adds, unmet-added}
 use Rattle.qs_canon.specs.Rounds.{Done, Rounds, Stage, after, after_one}
-use Rattle.qs_clean.proofs.Closures.{leads_within}
 use Rattle.qs_explain.specs.Support.{next_first, added_first}
 use Rattle.qs_explain.proofs.Ranges.{between-from, between-in}
 
@@ -162,7 +162,7 @@ module _ (R : List Rule) where
       (all_laid (suc n) (length G.arcs) F B (rounds_laid accepted G n B b)
       (λ f i.
       let fires = r.fires f i in
-      record { path = leads_within B.graph.arcs fires.from f.path fires.to fires.path.leads; some = built_some R accepted B.graph.arcs f fires }))
+      record { path = leads_low B.graph.arcs fires.from f.path fires.to fires.path.leads; some = built_some R accepted B.graph.arcs f fires }))
 
   -- what is laid so
   module _ (arcs : ℕ) where

@@ -7,6 +7,7 @@ use Rattle.qs_firing.specs.Adding.{from_on}
 use Rattle.qs_explain.specs.Texts.{numbers_text}
 use Rattle.qs_explain.specs.working.Numbers.{next_number}
 use Rattle.qs_explain.proofs.Ranges.{between-more}
+use Rattle.qs_canon.proofs.Counting.{from_long}
 
 rest-more : (ns : List ℕ) (n : ℕ) → flat_map (λ t. codes "," ++ t) (map decimal (ns ++ n ∷ [])) ≡ flat_map (λ t. codes "," ++ t) (map decimal ns) ++ (codes "," ++ decimal n)
 rest-more [] n = append-nil (codes "," ++ decimal n)
@@ -38,14 +39,10 @@ numbers_on ns i n b start before after l is e old new =
 pub range_on : (a n : ℕ) (b : Bool) (start before after : List ℕ) → a ≤ n → b ≡ nat_lt a n → before ≡ start ++ numbers_text (from_on a (n - a)) → after ≡ before ++ next_number b n
     → after ≡ start ++ numbers_text (from_on a (n + 1 - a))
 range_on a n b start before after l e old new =
-    let f : b ≡ nat_lt 0 (length (from_on a (n - a))) = e ∙ above a n ∙ ap (nat_lt 0) (sym (length-from_on a (n - a))) in
+    let f : b ≡ nat_lt 0 (length (from_on a (n - a))) = e ∙ above a n ∙ ap (nat_lt 0) (sym (from_long a (n - a))) in
     new ∙ ap (λ xs. xs ++ next_number b n) old ∙ append_assoc start (numbers_text (from_on a (n - a))) (next_number b n)
     ∙ ap (λ xs. start ++ xs) (sym (ap numbers_text (between-more a n l) ∙ numbers-more (from_on a (n - a)) n b f))
   where
-    length-from_on : (c m : ℕ) → length (from_on c m) ≡ m
-    length-from_on c zero = refl
-    length-from_on c (suc m) = ap suc (length-from_on (c + 1) m)
-
     above : (c m : ℕ) → nat_lt c m ≡ nat_lt 0 (m - c)
     above c m = grind (arith, nat_tests)
 

@@ -4,6 +4,7 @@ use Rattle.std.proofs.lemmas.Bool.{cases_lt}
 use Rattle.qs_tree.specs.Lists.{◌∈◌}
 use Rattle.qs_firing.specs.Adding.{from_on}
 use Rattle.qs_explain.specs.working.Marks.{IsFrom}
+use Rattle.qs_canon.proofs.CanonStart.{from_on-more}
 
 -- so many numbers from n on are those from n up to n + m
 pub from_on-from : (n m k : ℕ) → k ∈ from_on n m → IsFrom n (n + m) k
@@ -29,12 +30,6 @@ pub between-in : (n m k : ℕ) → IsFrom n m k → k ∈ from_on n (m - n)
 between-in n m k h = let a = h.0 in let b = h.1 in from_on-in n (m - n) k (omega arith, omega arith)
 
 -- one more
-pub from_on-more : (n m : ℕ) → from_on n (suc m) ≡ from_on n m ++ (n + m) ∷ []
-from_on-more n zero = let e : n ≡ n + 0 = omega arith in ap (λ j. j ∷ []) e
-from_on-more n (suc m) =
-    let e : (n + 1) + m ≡ n + suc m = omega arith in
-    ap (λ ns. n ∷ ns) (from_on-more (n + 1) m ∙ ap (λ j. from_on (n + 1) m ++ j ∷ []) e)
-
 pub between-more : (n m : ℕ) → n ≤ m → from_on n (m + 1 - n) ≡ from_on n (m - n) ++ m ∷ []
 between-more n m l =
     let many : m + 1 - n ≡ suc (m - n) = omega arith in

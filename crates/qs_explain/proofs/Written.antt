@@ -4,26 +4,15 @@ use Rattle.std.specs.Prelude.{codes}
 use Rattle.std.proofs.Math.Seq.{take-length}
 use Rattle.qs_tree.proofs.Kept.{kept-append}
 use Rattle.qs_graphtext.specs.Texts.{line}
+use Rattle.qs_graphtext.proofs.Written.{begins}
 
--- a list that begins with another one still does with more behind it
-pub begins : (start more now : List ℕ) → now ≡ start ++ more → take (length start) now ≡ start
-begins start more now e = kept-append start start now more (take-length start) e
+-- what stands before an arc's line leaves what stood there, and makes the comment with it
+pub kept_arc : (start number o1 o2 o3 : List ℕ) → o1 ≡ start ++ codes "# arc " → o2 ≡ o1 ++ number → o3 ≡ o2 ++ codes " " → take (length start) o3 ≡ start
+kept_arc start number o1 o2 o3 e1 e2 e3 =
+    kept-append start o2 o3 (codes " ") (kept-append start o1 o2 number (kept-append start start o1 (codes "# arc ") (take-length start) e1) e2) e3
 
--- the parts of an arc's line up to its first node, and up to its second one, leave what stood there
-pub kept_three : (start number o1 o2 o3 : List ℕ) → o1 ≡ start ++ codes "# arc " → o2 ≡ o1 ++ number → o3 ≡ o2 ++ codes " -" → take (length start) o3 ≡ start
-kept_three start number o1 o2 o3 e1 e2 e3 =
-    kept-append start o2 o3 (codes " -") (kept-append start o1 o2 number (kept-append start start o1 (codes "# arc ") (take-length start) e1) e2) e3
-
-pub kept_seven : (start number from tree o1 o2 o3 o4 o5 o6 o7 : List ℕ) → o1 ≡ start ++ codes "# arc " → o2 ≡ o1 ++ number → o3 ≡ o2 ++ codes " -" → o4 ≡ o3 ++ from → o5 ≡ o4 ++ codes "- " → o6 ≡ o5 ++ tree
-    → o7 ≡ o6 ++ codes " -" → take (length start) o7 ≡ start
-kept_seven start number from tree o1 o2 o3 o4 o5 o6 o7 e1 e2 e3 e4 e5 e6 e7 =
-    kept-append start o6 o7 (codes " -") (kept-append start o5 o6 tree (kept-append start o4 o5 (codes "- ") (kept-append start o3 o4 from (kept_three start number o1 o2 o3 e1 e2 e3) e4) e5) e6) e7
-
--- the parts of an arc's line make the line
-pub arc_done : (start number from tree to o1 o2 o3 o4 o5 o6 o7 o8 o9 : List ℕ) → o1 ≡ start ++ codes "# arc " → o2 ≡ o1 ++ number → o3 ≡ o2 ++ codes " -" → o4 ≡ o3 ++ from → o5 ≡ o4 ++ codes "- " → o6 ≡ o5 ++ tree
-    → o7 ≡ o6 ++ codes " -" → o8 ≡ o7 ++ to → o9 ≡ o8 ++ codes "-.\n"
-    → o9 ≡ start ++ (codes "# arc " ++ (number ++ (codes " " ++ line ((codes "-" ++ (from ++ codes "-")) ++ (codes " " ++ (tree ++ (codes " " ++ ((codes "-" ++ (to ++ codes "-")) ++ codes "."))))))))
-arc_done start number from tree to o1 o2 o3 o4 o5 o6 o7 o8 o9 e1 e2 e3 e4 e5 e6 e7 e8 e9 = rw (e9, e8, e7, e6, e5, e4, e3, e2, e1) (simp append_assoc refl)
+pub arc_done : (start number arc o1 o2 o3 o4 : List ℕ) → o1 ≡ start ++ codes "# arc " → o2 ≡ o1 ++ number → o3 ≡ o2 ++ codes " " → o4 ≡ o3 ++ arc → o4 ≡ start ++ (codes "# arc " ++ (number ++ (codes " " ++ arc)))
+arc_done start number arc o1 o2 o3 o4 e1 e2 e3 e4 = rw (e4, e3, e2, e1) (simp append_assoc refl)
 
 -- the parts of a firing's line up to its path, and all that stands before what it added
 pub kept_rule : (start rule o1 o2 o3 : List ℕ) → o1 ≡ start ++ codes "# rule " → o2 ≡ o1 ++ rule → o3 ≡ o2 ++ codes " on " → take (length start) o3 ≡ start

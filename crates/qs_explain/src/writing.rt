@@ -15,7 +15,8 @@ use crate::support::Support;
 use qs_canon::{Closure, Placed};
 use qs_firing::Firing;
 use qs_graph::Edge;
-use qs_tree::{Names, write_tree};
+use qs_graphtext::write_arc;
+use qs_tree::Names;
 use std::alloc::{AllocError, Global};
 
 /// Appends the support of a closure over a valid graph, in the closure's numbers: a line `# arc 3 -1- S(NP,VP) -2-.`
@@ -99,13 +100,8 @@ fn append_arc(
 {
     out.extend_from_slice(b"# arc ")?;
     append_number(alloc, number, out)?;
-    out.extend_from_slice(b" -")?;
-    append_number(alloc, edge.from, out)?;
-    out.extend_from_slice(b"- ")?;
-    write_tree(alloc, names, edge.tree.view(), out)?;
-    out.extend_from_slice(b" -")?;
-    append_number(alloc, edge.to, out)?;
-    out.extend_from_slice(b"-.\n")?;
+    out.extend_from_slice(b" ")?;
+    write_arc(alloc, names, edge, out)?;
     Ok(())
 }
 

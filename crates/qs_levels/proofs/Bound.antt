@@ -24,20 +24,13 @@ use Rattle.qs_canon.proofs.Existence.{has_rounds}
 use Rattle.qs_levels.specs.Tops.{top_labels}
 use Rattle.qs_levels.specs.Certificates.{LevelCertificate, HasLevel, Fits, ClosesBefore}
 use Rattle.qs_levels.proofs.Roots.{root_at_top, some_top}
+use Rattle.qs_graph.proofs.Lay.{tree_in_chain}
 
 -- what stands in one list behind another stands in the first or is a member of the second
 at_append : {X : Type 0} (xs ys : List X) (k : ℕ) (y : X) → slice_get (xs ++ ys) k ≡ Some y → (slice_get xs k ≡ Some y) ⊎ (y ∈ ys)
 at_append [] ys k y e = inr (in_at ys k y e)
 at_append (x ∷ xs) ys zero y e = inl e
 at_append (x ∷ xs) ys (suc k) y e = at_append xs ys k y e
-
--- the arcs of a chain carry its trees
-in_chain : (a : ℕ) (ts : List Tree) (next b : ℕ) (arc : Arc) → arc ∈ chain a ts next b → arc.tree ∈ ts
-in_chain a [] next b arc i = absurd i
-in_chain a (t ∷ []) next b arc (inl e) = inl (ap (λ (x : Arc). x.tree) e)
-in_chain a (t ∷ []) next b arc (inr i) = absurd i
-in_chain a (t ∷ u ∷ ts) next b arc (inl e) = inl (ap (λ (x : Arc). x.tree) e)
-in_chain a (t ∷ u ∷ ts) next b arc (inr i) = inr (in_chain next (u ∷ ts) (next + 1) b arc i)
 
 -- the tree of an arc of a path is one of the trees on it
 in_trees : (arcs : List Arc) (ks : List ℕ) (k : ℕ) (arc : Arc) → k ∈ ks → slice_get arcs k ≡ Some arc → arc.tree ∈ trees_on arcs ks
@@ -63,7 +56,7 @@ module _ (R : List Rule) where
   after_arcs n S [] k arc e = inl e
   after_arcs n S (f ∷ fs) k arc e = ⊎_elim
       (λ h. ⊎_elim inl
-      (λ i. inr (record { firing = f; is_in = inl refl; tree = in_added R S.graph f arc.tree (in_chain (start_of S.graph.arcs f.path) (added R S.graph f) (S.graph.nodes + 1) (end_of S.graph.arcs f.path) arc i) }))
+      (λ i. inr (record { firing = f; is_in = inl refl; tree = in_added R S.graph f arc.tree (tree_in_chain (start_of S.graph.arcs f.path) (added R S.graph f) (S.graph.nodes + 1) (end_of S.graph.arcs f.path) arc i) }))
       (at_append S.graph.arcs (chain (start_of S.graph.arcs f.path) (added R S.graph f) (S.graph.nodes + 1) (end_of S.graph.arcs f.path)) k arc h))
       (λ b. inr (record { firing = b.firing; is_in = inr b.is_in; tree = b.tree }))
       (after_arcs n (after_one R n S f) fs k arc e)

@@ -13,7 +13,8 @@ use Rattle.qs_tree.specs.declared.cell.Label.{Label}
 use Rattle.qs_pattern.specs.Rules.{Rule}
 use Rattle.qs_levels.specs.Tops.{HasLabelsAtTop, top_labels, labels_at_tops, each_once}
 use Rattle.qs_levels.specs.Certificates.{LevelCertificate, HasLevel, Fits, greatest_level, IsLeast, IsFound}
-use Rattle.qs_levels.proofs.ExistenceLists.{from_flat_map, no_longer, one_place, each_different, in_each_once, from_each_once, in_tops_of, from_tops_of, decide_tops}
+use Rattle.qs_levels.proofs.ExistenceLists.{from_flat_map, no_longer, in_tops_of, from_tops_of, decide_tops}
+use Rattle.qs_levels.proofs.Numbering.{once_apart, in_once, from_once}
 
 -- ---- there is one answer
 
@@ -141,7 +142,7 @@ module _ (rules : List Rule) where
 
   top_in : (rule : Rule) → rule ∈ rules → (l : Label) → (l ∈ top_labels rule.left) ⊎ (l ∈ top_labels rule.right) → l ∈ tops
   top_in rule i l j =
-      in_each_once (labels_at_tops rules) l
+      in_once (labels_at_tops rules) l
       (in_tops_of rules rule i l (⊎_elim (in_append_left (top_labels rule.left) (top_labels rule.right) l) (in_append_right (top_labels rule.left) (top_labels rule.right) l) j))
 
   abbrev many : ℕ
@@ -215,7 +216,7 @@ module _ (rules : List Rule) where
         omega (arith, c.long, short)
 
     top_level : (l : Label) → l ∈ tops → (n : ℕ) × HasLevel d l n
-    top_level l i = let x = from_tops_of rules l (from_each_once (labels_at_tops rules) l i) in fits.levels x.0 x.1 l x.2
+    top_level l i = let x = from_tops_of rules l (from_once (labels_at_tops rules) l i) in fits.levels x.0 x.1 l x.2
 
     all_settled : (r : Label) → r ∈ tops → ((n : ℕ) × HasLevel d r n) → height many r < many
     all_settled r i h = ⊎_elim
@@ -256,10 +257,10 @@ module _ (rules : List Rule) where
     it_fits = record {
       some = omega arith;
       below = λ l n i. omega (arith, greatest_low levels (l, n) i);
-      once = λ i j l m n p q. one_place tops (each_different (labels_at_tops rules)) i j l (label_at tops i l m p) (label_at tops j l n q);
+      once = λ i j l m n p q. once_apart (labels_at_tops rules) i j l (label_at tops i l m p) (label_at tops j l n q);
       left_tops = λ rule i. (at_top rule i).0;
       right_tops = λ rule i. (at_top rule i).1;
-      levels = λ rule i l j. (height many l, level_of l (in_each_once (labels_at_tops rules) l (in_tops_of rules rule i l j)));
+      levels = λ rule i l j. (height many l, level_of l (in_once (labels_at_tops rules) l (in_tops_of rules rule i l j)));
       rises = λ rule i l r j k m n p q.
           let step = to_step l r (record { rule = rule; is = i; left = j; right = k }) in
           let same = settled many r (omega (arith, each r (top_in rule i r (inr k)))) in

@@ -6,12 +6,12 @@ use Rattle.qs_tree.specs.Lists.{◌∈◌}
 use Rattle.qs_tree.specs.declared.cell.Label.{Label}
 use Rattle.qs_tree.proofs.Members.{from_append, in_append_left, in_append_right, in_at, in_get_or}
 use Rattle.qs_graph.proofs.Paths.{place_of}
-use Rattle.qs_firing.proofs.Placing.{in_more}
+use Rattle.qs_firing.proofs.Placing.{in_more, by_answer}
 use Rattle.qs_pattern.specs.Rules.{Rule}
 use Rattle.qs_levels.specs.Tops.{top_labels}
 use Rattle.qs_levels.specs.Certificates.{LevelCertificate, Fits}
 use Rattle.qs_levels.specs.working.Accepting.{IsWellFormed, AreLevels, AreBelow, Rises}
-use Rattle.qs_levels.proofs.Numbering.{same_label, by_answer}
+use Rattle.qs_levels.proofs.Numbering.{same_label}
 use Rattle.qs_levels.proofs.Passing.{from_take}
 
 pub no_levels : (level_of : ℕ → Option ℕ) → ((n : ℕ) → level_of n ≡ None) → AreLevels [] level_of

@@ -3,6 +3,7 @@ use Rattle.std.proofs.Common.{◌≡◌, ◌⊎◌, ℕ, zero, suc, ◌+◌, ◌
 use Rattle.std.proofs.lemmas.List.{length-map, length-take}
 use Rattle.std.proofs.lemmas.Bool.{cases_lt}
 use Rattle.std.proofs.lemmas.Option.{slice_get_within, slice_get-get_or, get_or_from_slice_get}
+use Rattle.qs_tree.proofs.Elements.{slice_get-take}
 use Rattle.qs_tree.specs.Lists.{◌∈◌}
 use Rattle.qs_tree.specs.declared.cell.Label.{Label}
 use Rattle.qs_tree.proofs.Members.{in_at, from_append, in_append_left, in_map}
@@ -14,7 +15,6 @@ use Rattle.qs_levels.specs.Certificates.{LevelCertificate, HasLevel, Fits, great
 use Rattle.qs_levels.specs.working.Tops.{tops_from, HaveLabelsAtTops}
 use Rattle.qs_levels.specs.working.Steps.{AreStepsOf}
 use Rattle.qs_levels.specs.working.Ordering.{AreDepths}
-use Rattle.qs_levels.proofs.Passing.{slice_get-take}
 use Rattle.qs_levels.proofs.Least.{step_cases, has_step, labels_once, one_place, few_numbers}
 
 abbrev pub no_node : Node

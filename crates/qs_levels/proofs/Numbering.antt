@@ -1,22 +1,14 @@
 -- Labels that are numbered as they are met.
-use Rattle.std.proofs.Common.{◌≡◌, ◌≢◌, ◌⊎◌, ℕ, ◌+◌, ◌≤◌, Bool, true, false, cond, nat_eq, inl, inr, ⊎_elim, List, [], ◌∷◌, ◌++◌, length, Option, Some, None, slice_get, refl, sym, ap, ◌∙◌, subst, arith, eqb-true, eq-eqb}
+use Rattle.std.proofs.Common.{◌≡◌, ◌≢◌, ◌⊎◌, ℕ, ◌+◌, ◌≤◌, Bool, true, false, cond, nat_eq, inl, inr, ⊎_elim, List, [], ◌∷◌, ◌++◌, length, Option, Some, None, slice_get, refl, sym, ap, ◌∙◌, subst, arith, eq-eqb}
 use Rattle.std.proofs.lemmas.List.{length_push}
 use Rattle.qs_tree.specs.Lists.{◌∈◌}
 use Rattle.qs_tree.specs.declared.cell.Label.{Label}
 use Rattle.qs_tree.proofs.Members.{in_at, in_append_left, in_append_right, from_append}
 use Rattle.qs_graph.proofs.Paths.{slice_get-append}
 use Rattle.qs_firing.proofs.Merging.{at_seam}
-use Rattle.qs_firing.proofs.Placing.{in_more}
+use Rattle.qs_firing.proofs.Placing.{in_more, by_answer}
 use Rattle.qs_levels.specs.Tops.{stands_in, with_label, with_labels, each_once}
 use Rattle.qs_levels.specs.working.Steps.{AreNumbered}
-
--- a test of numbers, by its answer
-pub by_answer : (n m : ℕ) → ((n ≡ m) × (nat_eq n m ≡ true)) ⊎ ((n ≢ m) × (nat_eq n m ≡ false))
-by_answer n m = by (nat_eq n m) refl
-  where
-    by : (b : Bool) → nat_eq n m ≡ b → ((n ≡ m) × (nat_eq n m ≡ true)) ⊎ ((n ≢ m) × (nat_eq n m ≡ false))
-    by true e = inl (eqb-true n m e, e)
-    by false e = inr (λ h. let t : true ≡ false = sym (eq-eqb n m h) ∙ e in absurd cc, e)
 
 pub same_label : (l k : Label) → l.0 ≡ k.0 → l ≡ k
 same_label l k e = λ i. record { 0 = e i }

@@ -2,6 +2,7 @@
 use Rattle.std.proofs.Common.{◌≡◌, ◌≢◌, ◌⊎◌, ℕ, zero, suc, ◌+◌, ◌<◌, ◌≤◌, inl, inr, ⊎_elim, Bool, true, false, List, [], ◌∷◌, length, map, take, get_or, Option, Some, None, slice_get, refl, sym, ap, ◌∙◌, subst, arith}
 use Rattle.std.proofs.lemmas.List.{length-map}
 use Rattle.std.proofs.lemmas.Option.{slice_get_within, slice_get-get_or}
+use Rattle.qs_tree.proofs.Elements.{slice_get-take}
 use Rattle.qs_tree.specs.Lists.{◌∈◌}
 use Rattle.qs_tree.proofs.Decisions.{decide_number}
 use Rattle.qs_tree.proofs.Members.{in_at}
@@ -9,7 +10,7 @@ use Rattle.qs_firing.specs.Neighbours.{IsLastPlace}
 use Rattle.qs_levels.specs.declared.ordering.Node.{Node}
 use Rattle.qs_levels.specs.working.Steps.{AreChains}
 use Rattle.qs_levels.specs.working.Ordering.{IsDone, IsUndone, IsBehind, IsUpTo, IsPassed, IsGoing, Waits, undone, IsVisited, AreStarted, AreDepths}
-use Rattle.qs_levels.proofs.Passing.{nothing_passed, slice_get-take, from_take}
+use Rattle.qs_levels.proofs.Passing.{nothing_passed, from_take}
 
 -- a node of the order stands at a place from n on
 abbrev pub IsFrom : List ℕ → ℕ → ℕ → ℕ → Type 0

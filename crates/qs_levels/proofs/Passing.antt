@@ -1,20 +1,15 @@
 -- Passing one step into a node.
-use Rattle.std.proofs.Common.{◌≡◌, ◌⊎◌, ℕ, zero, suc, ◌+◌, ◌<◌, ◌≤◌, inl, inr, ⊎_elim, max, List, [], ◌∷◌, length, take, drop, get_or, Option, Some, None, slice_get, refl, ◌∙◌, subst, arith}
+use Rattle.std.proofs.Common.{◌≡◌, ◌⊎◌, ℕ, ◌+◌, ◌<◌, ◌≤◌, inl, inr, ⊎_elim, max, List, length, take, drop, get_or, Option, Some, None, slice_get, refl, ◌∙◌, subst, arith}
 use Rattle.std.proofs.lemmas.List.{take-append-drop, length-take}
 use Rattle.std.proofs.lemmas.Option.{slice_get_within, slice_get-get_or}
 use Rattle.std.proofs.lemmas.Bool.{cases_lt}
+use Rattle.qs_tree.proofs.Elements.{slice_get-take}
 use Rattle.qs_tree.proofs.Members.{in_read, at_place}
 use Rattle.qs_graph.proofs.Paths.{slice_get-append}
 use Rattle.qs_firing.specs.Neighbours.{IsLastPlace}
 use Rattle.qs_levels.specs.declared.ordering.Node.{Node}
 use Rattle.qs_levels.specs.working.Steps.{AreChains}
 use Rattle.qs_levels.specs.working.Ordering.{AreSteps, IsDone, IsBehind, IsFromBelow, IsReached, IsPassed, places_left}
-
-pub slice_get-take : {X : Type 0} (n : ℕ) (xs : List X) (k : ℕ) → k < n → slice_get (take n xs) k ≡ slice_get xs k
-slice_get-take zero xs k h = absurd (omega arith)
-slice_get-take (suc n) [] k h = refl
-slice_get-take (suc n) (x ∷ xs) zero h = refl
-slice_get-take (suc n) (x ∷ xs) (suc k) h = slice_get-take n xs k (omega arith)
 
 pub from_take : {X : Type 0} (n : ℕ) (xs : List X) (k : ℕ) (x : X) → slice_get (take n xs) k ≡ Some x → slice_get xs k ≡ Some x
 from_take n xs k x e = subst (λ ys. slice_get ys k ≡ Some x) (take-append-drop n xs) (slice_get-append (take n xs) (drop n xs) k x e)

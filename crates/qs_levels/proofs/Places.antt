@@ -1,29 +1,12 @@
 -- The last places of numbers in a list, as it grows.
-use Rattle.std.proofs.Common.{◌≡◌, ◌≢◌, ℕ, ◌+◌, ◌<◌, ⊎_elim, List, [], ◌∷◌, ◌++◌, length, take, set, replicate, get_or, Option, Some, None, slice_get, refl, sym, ap, ◌∙◌, subst, arith, length-set}
+use Rattle.std.proofs.Common.{◌≡◌, ℕ, ◌+◌, ◌<◌, ⊎_elim, List, [], ◌∷◌, ◌++◌, length, take, set, replicate, get_or, Option, Some, None, slice_get, refl, sym, ap, ◌∙◌, subst, arith, length-set}
 use Rattle.std.proofs.Math.Seq.{take-append_seam}
 use Rattle.std.proofs.lemmas.List.{take_more, take-append-le, length-take-le, length-replicate, get_or_default, get_or-replicate, get_or-set_same, get_or-set_other, get_or_append_left, get_or_push, length_push}
 use Rattle.std.proofs.lemmas.Option.{slice_get_within}
 use Rattle.qs_tree.proofs.Decisions.{decide_number}
-use Rattle.qs_graph.proofs.Paths.{slice_get-append}
 use Rattle.qs_firing.specs.Neighbours.{IsLastPlace}
-use Rattle.qs_firing.proofs.Merging.{at_seam}
-use Rattle.qs_firing.proofs.Placing.{in_more}
+use Rattle.qs_firing.proofs.Placing.{in_more, last_here, last_kept}
 use Rattle.qs_levels.specs.working.Steps.{AreChains}
-
--- where the number is put behind the list, that is its last place
-last_here : (ns : List ℕ) (n : ℕ) → IsLastPlace (ns ++ n ∷ []) n (Some (length ns))
-last_here ns n = (
-  at_seam ns n [],
-  λ j e. ⊎_elim (λ h. let l = slice_get_within ns j n h in omega arith) (λ (p, q). omega arith) (in_more ns n j n e),
-)
-
--- and each other number keeps its own
-last_kept : (ns : List ℕ) (n m : ℕ) → n ≢ m → (o : Option ℕ) → IsLastPlace ns m o → IsLastPlace (ns ++ n ∷ []) m o
-last_kept ns n m apart None x = λ k e. ⊎_elim (λ h. x k h) (λ (p, q). apart (sym q)) (in_more ns n k m e)
-last_kept ns n m apart (Some k) x = (
-  slice_get-append ns (n ∷ []) k m x.0,
-  λ j e. ⊎_elim (λ h. x.1 j h) (λ (p, q). absurd (apart (sym q))) (in_more ns n j m e),
-)
 
 -- no number has a place in the empty list
 pub no_chains : (limit : ℕ) (last before : List (Option ℕ)) → last ≡ replicate limit None → before ≡ [] → AreChains limit [] last before

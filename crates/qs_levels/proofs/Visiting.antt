@@ -3,6 +3,7 @@ use Rattle.std.proofs.Common.{◌≡◌, ◌≢◌, ◌⊎◌, ℕ, zero, suc, �
 use Rattle.std.proofs.lemmas.List.{length_push}
 use Rattle.std.proofs.lemmas.Bool.{cases_lt}
 use Rattle.std.proofs.lemmas.Option.{slice_get_within}
+use Rattle.qs_tree.proofs.Elements.{set_here}
 use Rattle.qs_tree.specs.Lists.{◌∈◌}
 use Rattle.qs_tree.proofs.Decisions.{decide_number}
 use Rattle.qs_tree.proofs.Members.{in_append_left, in_append_right, from_append}
@@ -10,11 +11,6 @@ use Rattle.qs_graph.proofs.Paths.{slice_get-append}
 use Rattle.qs_firing.proofs.Merging.{at_seam}
 use Rattle.qs_levels.specs.declared.ordering.Node.{Node}
 use Rattle.qs_levels.specs.working.Ordering.{IsDone, IsUndone, IsFromBelow, IsReached, IsPassed, IsGoing, undone_of, undone, IsVisited, IsHeldUp}
-
-set_here : {X : Type 0} (xs : List X) (i : ℕ) (v : X) → i < length xs → slice_get (set xs i v) i ≡ Some v
-set_here [] i v h = absurd (omega arith)
-set_here (x ∷ xs) zero v h = refl
-set_here (x ∷ xs) (suc i) v h = set_here xs i v (omega arith)
 
 set_there : {X : Type 0} (xs : List X) (i j : ℕ) (v : X) → j ≢ i → slice_get (set xs i v) j ≡ slice_get xs j
 set_there [] i j v h = refl

@@ -10,6 +10,7 @@ use Rattle.qs_canon.specs.working.CanonNumbers.{table_of, IsReadyAt, AreInNumber
 use Rattle.qs_canon.specs.working.CanonSteps.{stage_now, IsRounding}
 use Rattle.qs_canon.proofs.CanonPassed.{written_over}
 use Rattle.qs_canon.proofs.CanonRounds.{path_low, rounding_first, enough, within, rounds_fit, ready_named, ready_long, each_recorded, starts, placed_more, placed_few, rounding_next, all_done}
+use Rattle.qs_canon.proofs.numbering.canon.Goals.{In_ok-firings}
 use Rattle.qs_canon.proofs.numbering.canon.Goals as goal
 
 pub users_of-requires-clause-arcs : goal.users_of-requires-clause-arcs
@@ -57,58 +58,53 @@ in_numbers-requires c = λ i j.
     subst (λ (ds : List Fired). IsReadyAt (table_of c.rounds.numbers.arcs.items) ds i) (sym c.all_done-fired.ensures.value)
     (ready_named c.args.end.now.machine c.in_ok-users.users.items c.rounds.numbers c.rounds.missing.items c.rounds.passed c.rounds.round c.rounds.invariant c.pass.new.missing c.in_ok-ready.ready.items counted i (subst (λ (is : List ℕ). i ∈ is) c.deref-in-rounds.ensures.value j))
 
+-- what a round counts down, what its firings are, and that it has some
+counted : (c : In_ok-firings)
+    → AreCountedDown c.rounds.missing.items (uses c.in_ok-users.users.items (drop c.rounds.passed c.rounds.numbers.origins.items)) c.pass.new.missing [] c.in_ok-ready.ready.items
+counted c =
+    subst (λ (ns : List ℕ). AreCountedDown ns (uses c.in_ok-users.users.items (drop c.rounds.passed c.rounds.numbers.origins.items)) c.pass.new.missing [] c.in_ok-ready.ready.items) c.deref_mut.ensures.value
+    (subst (λ (ks : List ℕ). AreCountedDown c.deref_mut.result.now (uses c.in_ok-users.users.items ks) c.pass.new.missing [] c.in_ok-ready.ready.items) c.origins_from.ensures
+    (subst (λ (us : List (Vec ℕ Global)). AreCountedDown c.deref_mut.result.now (uses us c.origins_from.result.now) c.pass.new.missing [] c.in_ok-ready.ready.items) c.deref.ensures.value c.in_ok-ready.ensures))
+
+are : (c : In_ok-firings) → AreInNumbers (table_of c.rounds.numbers.arcs.items) c.args.end.now.machine.state.done c.in_ok-ready.ready.items c.in_ok-in_numbers.field-0.items
+are c =
+    subst (λ (is : List ℕ). AreInNumbers (table_of c.rounds.numbers.arcs.items) c.args.end.now.machine.state.done is c.in_ok-in_numbers.field-0.items) c.deref-in-rounds.ensures.value
+    (subst (λ (ds : List Fired). AreInNumbers (table_of c.rounds.numbers.arcs.items) ds c.deref-in-rounds.result.now c.in_ok-in_numbers.field-0.items) c.all_done-fired.ensures.value c.in_ok-in_numbers.ensures)
+
+some : (c : In_ok-firings) → 0 < length c.in_ok-firings.firings.items
+some c =
+    let ready : 0 < length c.in_ok-ready.ready.items = grind (arith, nat_tests, c.if-is_empty.ensures, c.in_ok-ready.ready.ok.0) in
+    let a = ready_long (table_of c.rounds.numbers.arcs.items) c.args.end.now.machine.state.done c.in_ok-ready.ready.items c.in_ok-in_numbers.field-0.items (are c) in
+    let p = length_permutation c.in_ok-in_numbers.field-0.items c.in_ok-firings.firings.items c.in_ok-firings.ensures.permutation in
+    omega (arith, ready, a, p)
+
 pub do_round-requires-clause-at_work : goal.do_round-requires-clause-at_work
 do_round-requires-clause-at_work c =
-    let counted = subst (λ (ns : List ℕ). AreCountedDown ns (uses c.in_ok-users.users.items (drop c.rounds.passed c.rounds.numbers.origins.items)) c.pass.new.missing [] c.in_ok-ready.ready.items) c.deref_mut.ensures.value
-    (subst (λ (ks : List ℕ). AreCountedDown c.deref_mut.result.now (uses c.in_ok-users.users.items ks) c.pass.new.missing [] c.in_ok-ready.ready.items) c.origins_from.ensures
-    (subst (λ (us : List (Vec ℕ Global)). AreCountedDown c.deref_mut.result.now (uses us c.origins_from.result.now) c.pass.new.missing [] c.in_ok-ready.ready.items) c.deref.ensures.value c.in_ok-ready.ensures)) in
-    let are = subst (λ (is : List ℕ). AreInNumbers (table_of c.rounds.numbers.arcs.items) c.args.end.now.machine.state.done is c.in_ok-in_numbers.field-0.items) c.deref-in-rounds.ensures.value
-    (subst (λ (ds : List Fired). AreInNumbers (table_of c.rounds.numbers.arcs.items) ds c.deref-in-rounds.result.now c.in_ok-in_numbers.field-0.items) c.all_done-fired.ensures.value c.in_ok-in_numbers.ensures) in
-    (c.rounds.round, stage_now c.rounds.numbers, refl, starts c.args.end.now.machine c.in_ok-users.users.items c.rounds.numbers c.rounds.missing.items c.rounds.passed c.rounds.round c.rounds.invariant c.pass.new.missing c.in_ok-ready.ready.items counted c.in_ok-in_numbers.field-0.items c.in_ok-firings.firings.items are c.in_ok-firings.ensures.permutation c.in_ok-firings.ensures.rises)
+    let b = (goal.at.do_round-requires-clause-at_work c).In_ok-firings in
+    (c.rounds.round, stage_now c.rounds.numbers, refl, starts c.args.end.now.machine c.in_ok-users.users.items c.rounds.numbers c.rounds.missing.items c.rounds.passed c.rounds.round c.rounds.invariant c.pass.new.missing c.in_ok-ready.ready.items (counted b) c.in_ok-in_numbers.field-0.items c.in_ok-firings.firings.items (are b) c.in_ok-firings.ensures.permutation c.in_ok-firings.ensures.rises)
 
 pub do_round-requires-clause-recorded : goal.do_round-requires-clause-recorded
 do_round-requires-clause-recorded c =
-    let counted = subst (λ (ns : List ℕ). AreCountedDown ns (uses c.in_ok-users.users.items (drop c.rounds.passed c.rounds.numbers.origins.items)) c.pass.new.missing [] c.in_ok-ready.ready.items) c.deref_mut.ensures.value
-    (subst (λ (ks : List ℕ). AreCountedDown c.deref_mut.result.now (uses c.in_ok-users.users.items ks) c.pass.new.missing [] c.in_ok-ready.ready.items) c.origins_from.ensures
-    (subst (λ (us : List (Vec ℕ Global)). AreCountedDown c.deref_mut.result.now (uses us c.origins_from.result.now) c.pass.new.missing [] c.in_ok-ready.ready.items) c.deref.ensures.value c.in_ok-ready.ensures)) in
-    let are = subst (λ (is : List ℕ). AreInNumbers (table_of c.rounds.numbers.arcs.items) c.args.end.now.machine.state.done is c.in_ok-in_numbers.field-0.items) c.deref-in-rounds.ensures.value
-    (subst (λ (ds : List Fired). AreInNumbers (table_of c.rounds.numbers.arcs.items) ds c.deref-in-rounds.result.now c.in_ok-in_numbers.field-0.items) c.all_done-fired.ensures.value c.in_ok-in_numbers.ensures) in
-    each_recorded c.args.end.now.machine c.in_ok-users.users.items c.rounds.numbers c.rounds.missing.items c.rounds.passed c.rounds.round c.rounds.invariant c.pass.new.missing c.in_ok-ready.ready.items counted c.in_ok-in_numbers.field-0.items c.in_ok-firings.firings.items are c.in_ok-firings.ensures.permutation c.in_ok-firings.ensures.rises
+    let b = (goal.at.do_round-requires-clause-recorded c).In_ok-firings in
+    each_recorded c.args.end.now.machine c.in_ok-users.users.items c.rounds.numbers c.rounds.missing.items c.rounds.passed c.rounds.round c.rounds.invariant c.pass.new.missing c.in_ok-ready.ready.items (counted b) c.in_ok-in_numbers.field-0.items c.in_ok-firings.firings.items (are b) c.in_ok-firings.ensures.permutation c.in_ok-firings.ensures.rises
 
+-- so that the firings are done, and the rounds get on
 pub rounds-smaller : goal.rounds-smaller
 rounds-smaller c =
-    let counted = subst (λ (ns : List ℕ). AreCountedDown ns (uses c.in_ok-users.users.items (drop c.rounds.passed c.rounds.numbers.origins.items)) c.pass.new.missing [] c.in_ok-ready.ready.items) c.deref_mut.ensures.value
-    (subst (λ (ks : List ℕ). AreCountedDown c.deref_mut.result.now (uses c.in_ok-users.users.items ks) c.pass.new.missing [] c.in_ok-ready.ready.items) c.origins_from.ensures
-    (subst (λ (us : List (Vec ℕ Global)). AreCountedDown c.deref_mut.result.now (uses us c.origins_from.result.now) c.pass.new.missing [] c.in_ok-ready.ready.items) c.deref.ensures.value c.in_ok-ready.ensures)) in
-    let are = subst (λ (is : List ℕ). AreInNumbers (table_of c.rounds.numbers.arcs.items) c.args.end.now.machine.state.done is c.in_ok-in_numbers.field-0.items) c.deref-in-rounds.ensures.value
-    (subst (λ (ds : List Fired). AreInNumbers (table_of c.rounds.numbers.arcs.items) ds c.deref-in-rounds.result.now c.in_ok-in_numbers.field-0.items) c.all_done-fired.ensures.value c.in_ok-in_numbers.ensures) in
-    let some : 0 < length c.in_ok-ready.ready.items = grind (arith, nat_tests, c.if-is_empty.ensures, c.in_ok-ready.ready.ok.0) in
-    let many : 0 < length c.in_ok-firings.firings.items =
-    (let a = ready_long (table_of c.rounds.numbers.arcs.items) c.args.end.now.machine.state.done c.in_ok-ready.ready.items c.in_ok-in_numbers.field-0.items are in
-    let p = length_permutation c.in_ok-in_numbers.field-0.items c.in_ok-firings.firings.items c.in_ok-firings.ensures.permutation in
-    omega (arith, some, a, p)) in
-    let w = c.in_ok-do_round.ensures.work c.rounds.round (stage_now c.rounds.numbers) refl (starts c.args.end.now.machine c.in_ok-users.users.items c.rounds.numbers c.rounds.missing.items c.rounds.passed c.rounds.round c.rounds.invariant c.pass.new.missing c.in_ok-ready.ready.items counted c.in_ok-in_numbers.field-0.items c.in_ok-firings.firings.items are c.in_ok-firings.ensures.permutation c.in_ok-firings.ensures.rises) in
-    let more = placed_more c.args.end.now.machine c.in_ok-users.users.items c.rounds.numbers c.rounds.missing.items c.rounds.passed c.rounds.round c.rounds.invariant c.pass.new.missing c.in_ok-ready.ready.items counted c.in_ok-in_numbers.field-0.items c.in_ok-firings.firings.items are c.in_ok-firings.ensures.permutation c.in_ok-firings.ensures.rises c.do_round.new.self w c.in_ok-do_round.ensures.stay many in
-    let few = placed_few c.args.end.now.machine c.in_ok-users.users.items c.rounds.numbers c.rounds.missing.items c.rounds.passed c.rounds.round c.rounds.invariant c.pass.new.missing c.in_ok-ready.ready.items counted c.in_ok-in_numbers.field-0.items c.in_ok-firings.firings.items are c.in_ok-firings.ensures.permutation c.in_ok-firings.ensures.rises c.do_round.new.self w c.in_ok-do_round.ensures.stay in
+    let b = (goal.at.rounds-smaller c).In_ok-firings in
+    let w = c.in_ok-do_round.ensures.work c.rounds.round (stage_now c.rounds.numbers) refl (starts c.args.end.now.machine c.in_ok-users.users.items c.rounds.numbers c.rounds.missing.items c.rounds.passed c.rounds.round c.rounds.invariant c.pass.new.missing c.in_ok-ready.ready.items (counted b) c.in_ok-in_numbers.field-0.items c.in_ok-firings.firings.items (are b) c.in_ok-firings.ensures.permutation c.in_ok-firings.ensures.rises) in
+    let more = placed_more c.args.end.now.machine c.in_ok-users.users.items c.rounds.numbers c.rounds.missing.items c.rounds.passed c.rounds.round c.rounds.invariant c.pass.new.missing c.in_ok-ready.ready.items (counted b) c.in_ok-in_numbers.field-0.items c.in_ok-firings.firings.items (are b) c.in_ok-firings.ensures.permutation c.in_ok-firings.ensures.rises c.do_round.new.self w c.in_ok-do_round.ensures.stay (some b) in
+    let few = placed_few c.args.end.now.machine c.in_ok-users.users.items c.rounds.numbers c.rounds.missing.items c.rounds.passed c.rounds.round c.rounds.invariant c.pass.new.missing c.in_ok-ready.ready.items (counted b) c.in_ok-in_numbers.field-0.items c.in_ok-firings.firings.items (are b) c.in_ok-firings.ensures.permutation c.in_ok-firings.ensures.rises c.do_round.new.self w c.in_ok-do_round.ensures.stay in
     omega (arith, more, few)
 
 pub rounds-preserved : goal.rounds-preserved
 rounds-preserved c =
-    let counted = subst (λ (ns : List ℕ). AreCountedDown ns (uses c.in_ok-users.users.items (drop c.rounds.passed c.rounds.numbers.origins.items)) c.pass.new.missing [] c.in_ok-ready.ready.items) c.deref_mut.ensures.value
-    (subst (λ (ks : List ℕ). AreCountedDown c.deref_mut.result.now (uses c.in_ok-users.users.items ks) c.pass.new.missing [] c.in_ok-ready.ready.items) c.origins_from.ensures
-    (subst (λ (us : List (Vec ℕ Global)). AreCountedDown c.deref_mut.result.now (uses us c.origins_from.result.now) c.pass.new.missing [] c.in_ok-ready.ready.items) c.deref.ensures.value c.in_ok-ready.ensures)) in
-    let are = subst (λ (is : List ℕ). AreInNumbers (table_of c.rounds.numbers.arcs.items) c.args.end.now.machine.state.done is c.in_ok-in_numbers.field-0.items) c.deref-in-rounds.ensures.value
-    (subst (λ (ds : List Fired). AreInNumbers (table_of c.rounds.numbers.arcs.items) ds c.deref-in-rounds.result.now c.in_ok-in_numbers.field-0.items) c.all_done-fired.ensures.value c.in_ok-in_numbers.ensures) in
-    let some : 0 < length c.in_ok-ready.ready.items = grind (arith, nat_tests, c.if-is_empty.ensures, c.in_ok-ready.ready.ok.0) in
-    let many : 0 < length c.in_ok-firings.firings.items =
-    (let a = ready_long (table_of c.rounds.numbers.arcs.items) c.args.end.now.machine.state.done c.in_ok-ready.ready.items c.in_ok-in_numbers.field-0.items are in
-    let p = length_permutation c.in_ok-in_numbers.field-0.items c.in_ok-firings.firings.items c.in_ok-firings.ensures.permutation in
-    omega (arith, some, a, p)) in
-    let w = c.in_ok-do_round.ensures.work c.rounds.round (stage_now c.rounds.numbers) refl (starts c.args.end.now.machine c.in_ok-users.users.items c.rounds.numbers c.rounds.missing.items c.rounds.passed c.rounds.round c.rounds.invariant c.pass.new.missing c.in_ok-ready.ready.items counted c.in_ok-in_numbers.field-0.items c.in_ok-firings.firings.items are c.in_ok-firings.ensures.permutation c.in_ok-firings.ensures.rises) in
+    let b = (goal.at.rounds-preserved c).In_ok-firings in
+    let w = c.in_ok-do_round.ensures.work c.rounds.round (stage_now c.rounds.numbers) refl (starts c.args.end.now.machine c.in_ok-users.users.items c.rounds.numbers c.rounds.missing.items c.rounds.passed c.rounds.round c.rounds.invariant c.pass.new.missing c.in_ok-ready.ready.items (counted b) c.in_ok-in_numbers.field-0.items c.in_ok-firings.firings.items (are b) c.in_ok-firings.ensures.permutation c.in_ok-firings.ensures.rises) in
     let same = ap (λ (ns : List ℕ). length ns) c.deref_mut.ensures.value in
     let long : length c.pass.new.missing ≡ c.rounds.missing.len = omega (arith, same, c.rounds.missing.ok.0) in
     let next : suc c.rounds.round ≡ c.rounds.round + 1 = omega arith in
-    let goes = rounding_next c.args.end.now.machine c.in_ok-users.users.items c.rounds.numbers c.rounds.missing.items c.rounds.passed c.rounds.round c.rounds.invariant c.pass.new.missing c.in_ok-ready.ready.items counted c.in_ok-in_numbers.field-0.items c.in_ok-firings.firings.items are c.in_ok-firings.ensures.permutation c.in_ok-firings.ensures.rises c.do_round.new.self w c.in_ok-do_round.ensures.stay many in
+    let goes = rounding_next c.args.end.now.machine c.in_ok-users.users.items c.rounds.numbers c.rounds.missing.items c.rounds.passed c.rounds.round c.rounds.invariant c.pass.new.missing c.in_ok-ready.ready.items (counted b) c.in_ok-in_numbers.field-0.items c.in_ok-firings.firings.items (are b) c.in_ok-firings.ensures.permutation c.in_ok-firings.ensures.rises c.do_round.new.self w c.in_ok-do_round.ensures.stay (some b) in
     subst (λ (ns : List ℕ). IsRounding c.args.end.now.machine c.in_ok-users.users.items c.do_round.new.self ns c.arcs-passed.result (c.rounds.round + 1)) (sym (written_over c.pass.new.missing c.rounds.missing.items c.rounds.missing.len long))
     (subst (λ (m : ℕ). IsRounding c.args.end.now.machine c.in_ok-users.users.items c.do_round.new.self c.pass.new.missing m (c.rounds.round + 1)) (sym c.arcs-passed.ensures)
     (subst (λ (m : ℕ). IsRounding c.args.end.now.machine c.in_ok-users.users.items c.do_round.new.self c.pass.new.missing (length c.rounds.numbers.origins.items) m) next goes))

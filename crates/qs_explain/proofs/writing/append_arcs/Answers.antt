@@ -1,6 +1,7 @@
 use Rattle.std.proofs.Common.{◌≡◌, [], ◌<◌, ◌++◌, length, get_or, Option, Some, slice_get, unwrap_or, sym, ap, subst, arith}
 use Rattle.std.specs.Prelude.{codes, decimal}
 use Rattle.std.specs.Option.{option_map}
+use Rattle.qs_graphtext.proofs.Written.{begins}
 use Rattle.qs_tree.specs.Lists.{◌∈◌}
 use Rattle.qs_tree.proofs.Kept.{kept-further, on_err}
 use Rattle.qs_tree.proofs.Members.{in_get_or, in_read, at_place}
@@ -8,7 +9,6 @@ use Rattle.qs_graph.specs.Graphs.{Arc}
 use Rattle.qs_graphtext.specs.Texts.{arc_line}
 use Rattle.qs_canon.specs.Closures.{ClosureOf}
 use Rattle.qs_explain.specs.Texts.{arc_comment}
-use Rattle.qs_explain.proofs.Written.{begins}
 use Rattle.qs_explain.proofs.Numbers.{flat_on}
 use Rattle.qs_explain.proofs.writing.append_arcs.Goals as goal
 

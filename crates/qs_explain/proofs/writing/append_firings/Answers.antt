@@ -1,5 +1,6 @@
 use Rattle.std.proofs.Common.{◌≡◌, ◌<◌, ◌+◌, false, length, drop, get_or, Some, slice_get, ◌∙◌, ap, subst, arith}
 use Rattle.std.proofs.lemmas.Option.{slice_get_within}
+use Rattle.qs_graphtext.proofs.Written.{begins}
 use Rattle.qs_tree.proofs.Kept.{kept-further, on_err}
 use Rattle.qs_tree.proofs.Members.{in_get_or, at_place}
 use Rattle.qs_canon.specs.Rounds.{Done}
@@ -7,7 +8,6 @@ use Rattle.qs_canon.specs.Closures.{ClosureOf}
 use Rattle.qs_explain.specs.Support.{next_first}
 use Rattle.qs_explain.specs.Texts.{firing_comment}
 use Rattle.qs_explain.proofs.Laid.{adding}
-use Rattle.qs_explain.proofs.Written.{begins}
 use Rattle.qs_explain.proofs.Numbers.{flat_on}
 use Rattle.qs_explain.proofs.Grounded.{comment_is}
 use Rattle.qs_explain.proofs.writing.append_firings.Goals as goal

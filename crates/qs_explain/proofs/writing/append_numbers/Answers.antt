@@ -1,6 +1,6 @@
 use Rattle.std.proofs.Common.{get_or, refl, arith}
+use Rattle.qs_graphtext.proofs.Written.{begins}
 use Rattle.qs_tree.proofs.Kept.{kept-further, on_err}
-use Rattle.qs_explain.proofs.Written.{begins}
 use Rattle.qs_explain.proofs.Numbers.{numbers_on}
 use Rattle.qs_explain.proofs.writing.append_numbers.Goals as goal
 

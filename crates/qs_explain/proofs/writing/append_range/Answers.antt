@@ -1,6 +1,6 @@
 use Rattle.std.proofs.Common.{refl, inr, arith}
+use Rattle.qs_graphtext.proofs.Written.{begins}
 use Rattle.qs_tree.proofs.Kept.{kept-further, on_err}
-use Rattle.qs_explain.proofs.Written.{begins}
 use Rattle.qs_explain.proofs.Numbers.{range_on}
 use Rattle.qs_explain.proofs.writing.append_range.Goals as goal
 
