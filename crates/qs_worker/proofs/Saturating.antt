@@ -1,5 +1,5 @@
 -- The run of one worker, turn by turn, and that the machine behind it is saturated.
-use Rattle.std.proofs.Common.{◌≡◌, ℕ, ◌<◌, Bool, true, false, List, [], ◌++◌, length, refl, sym, ◌∙◌, ap, subst, inl, inr, ◌⊎◌, arith, Option, Some, None, append-nil}
+use Rattle.std.proofs.Common.{◌≡◌, ℕ, ◌<◌, Bool, true, false, List, length, refl, sym, ◌∙◌, ap, subst, inl, inr, ◌⊎◌, arith, Option, Some, None}
 use Rattle.std.specs.Option.{option_map}
 use Rattle.std.proofs.lemmas.Option.{slice_get_within}
 use Rattle.qs_tree.specs.Lists.{◌∈◌}
@@ -12,14 +12,14 @@ use Rattle.qs_core.specs.declared.step.Status.TheVariants as status
 use Rattle.qs_core.specs.declared.answers.End.TheVariants as end
 use Rattle.qs_core.specs.Core.{Base, IsClosed}
 use Rattle.qs_core.specs.Runs.{Machine, IsReplayed}
-use Rattle.qs_core.specs.Answers.{opened, end_of_stop, IsStopped}
+use Rattle.qs_core.specs.Answers.{end_of_stop, IsStopped}
 use Rattle.qs_core.proofs.Twins.{HasEnds, valid_ends}
 use Rattle.qs_core.proofs.Runs.{keeps}
 use Rattle.qs_canon.specs.Rounds.{Needs}
 use Rattle.qs_canon.proofs.Existence.{has_rounds}
 use Rattle.qs_canon.proofs.Runs.{over_needs, closed_needs}
 use Rattle.qs_worker.specs.Saturation.{IsSaturated}
-use Rattle.qs_worker.specs.working.Turns.{left_to_claim, HasMore, IsBetween, IsNext, IsPartly, EndsWork, IsWorked, AreAccepted}
+use Rattle.qs_worker.specs.working.Turns.{left_to_claim, IsBetween, IsNext, IsPartly, EndsWork, IsWorked, AreAccepted}
 use Rattle.qs_worker.proofs.Waiting.{left_claimed}
 use Rattle.qs_worker.proofs.Turns.{partly_none}
 
@@ -45,12 +45,6 @@ saturated R G L seats M base accepted valid run ended = record {
 
     needs : Needs M.base.rules M.base.start M.base.limit → Needs R G L
     needs n = subst (λ (B : Base). Needs B.rules B.start B.limit) base n
-
--- the machine as it was opened, and a view of the start's arcs
-pub begins : (B : Base) (M : Machine) (view old edges : List Arc) → M ≡ opened B → view ≡ old ++ edges → old ≡ [] → edges ≡ B.start.arcs → HasMore view M
-begins B M view old edges is added none all =
-    let these : view ≡ B.start.arcs = added ∙ ap (λ xs. xs ++ edges) none ∙ all in
-    ([], ap (λ (X : Machine). X.state.graph.arcs) is ∙ sym these ∙ sym (append-nil view))
 
 -- M goes on, its seat takes the arc m, and N is the machine behind the claim
 module _ (R : List Rule) (G : QGraph) (L : ℕ) (M N : Machine) (next : Option ℕ) (m : ℕ) (took : next ≡ Some m) (between : IsBetween (record { rules = R; start = G; limit = L; seats = 1 }) M) (claimed : IsNext M next N) where
@@ -98,9 +92,6 @@ module _ (R : List Rule) (G : QGraph) (L : ℕ) (M N : Machine) (next : Option �
     goes_on e =
         let ends = subst (λ (b : Bool). EndsWork b P) e worked.ends in
         record { base = worked.base ∙ base_is; replayed = worked.replayed; going = ends.0; free = ends.1 }
-
-    pub sees : (view : List Arc) → view ≡ N.state.graph.arcs → HasMore view P
-    sees view seen = subst (λ (xs : List Arc). HasMore xs P) (sym seen) worked.more
 
     pub ends_over : all ≡ false → AreAccepted R → IsValid G → IsSaturated R G L 1 P
     ends_over e accepted valid =

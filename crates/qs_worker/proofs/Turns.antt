@@ -1,8 +1,9 @@
 -- A turn of the one seat: it claims an arc or finds that every arc is done, and publishes the firings of its work.
-use Rattle.std.proofs.Common.{◌≡◌, ℕ, zero, suc, ◌+◌, ◌<◌, ◌≤◌, true, false, List, [], ◌∷◌, ◌++◌, length, map, set, refl, sym, ◌∙◌, ap, subst, inl, inr, ⊎_elim, arith, Option, Some, None, slice_get, append-nil, append_assoc, length-append}
+use Rattle.std.proofs.Common.{◌≡◌, ℕ, zero, suc, ◌+◌, ◌<◌, ◌≤◌, true, false, List, [], ◌∷◌, length, map, set, refl, sym, ◌∙◌, ap, subst, inl, inr, ⊎_elim, arith, Option, Some, None, slice_get, length-append}
 use Rattle.std.specs.Option.{option_map}
 use Rattle.std.proofs.lemmas.Option.{slice_get_within}
 use Rattle.std.proofs.lemmas.List.{length-map}
+use Rattle.qs_tree.proofs.Elements.{exists_at, set_here, at_mapped}
 use Rattle.qs_graph.proofs.Paths.{slice_get-append}
 use Rattle.qs_firing.specs.Adding.{added}
 use Rattle.qs_firing.specs.Work.{WithTrees, WorkWithTrees, IsRightFor}
@@ -22,11 +23,10 @@ use Rattle.qs_core.specs.Runs.{Machine, with_step, IsReplayed, MayClaim, MayRest
 use Rattle.qs_core.specs.Answers.{opened, end_of_stop, RestsIfClaimed, IsClaimed, IsPublished}
 use Rattle.qs_core.specs.Keeps.{Keeps}
 use Rattle.qs_core.proofs.Places.{all_waiting, rest_cases}
-use Rattle.qs_core.proofs.Tables.{set_here}
-use Rattle.qs_core.proofs.Runs.{keeps, exists_at}
+use Rattle.qs_core.proofs.Runs.{keeps}
 use Rattle.qs_core.proofs.Machines.{replayed_step, replayed_stop}
-use Rattle.qs_core.proofs.Staying.{free_worked, arcs_more, right_stays}
-use Rattle.qs_worker.specs.working.Turns.{AreAccepted, HasMore, IsBetween, IsNext, IsPartly, IsWorked}
+use Rattle.qs_core.proofs.Staying.{free_worked, right_stays}
+use Rattle.qs_worker.specs.working.Turns.{AreAccepted, IsBetween, IsNext, IsPartly, IsWorked}
 use Rattle.qs_worker.proofs.Waiting.{left_published}
 
 -- a run that goes on wasn't stopped
@@ -92,7 +92,6 @@ partly_none M N m work between some (waits, is) arc right =
     let here : m < length (map (rest_one 0) M.state.status) = omega (arith, low, long) in
     subst (λ (X : Machine). IsPartly X work 0 X) (sym is) (record {
       base = refl;
-      more = ([], sym (append-nil M.state.graph.arcs));
       replayed = replayed_step M between.replayed between.going (step.Claim 0 m) (after_claim M.state 0 m) (may, refl);
       going = between.going;
       claim = subst (λ n. HasClaim (after_claim M.state 0 m) 0 n 0) (sym arc) (set_here (map (rest_one 0) M.state.status) m (status.Claimed 0 0) here);
@@ -101,11 +100,6 @@ partly_none M N m work between some (waits, is) arc right =
       done = omega arith;
       left = omega arith;
     })
-
-at_mapped : {X Y : Type 0} (f : X → Y) (xs : List X) (k : ℕ) (x : X) → slice_get xs k ≡ Some x → slice_get (map f xs) k ≡ Some (f x)
-at_mapped f [] k x e = absurd cc
-at_mapped f (y ∷ xs) zero x e = let same : y ≡ x = cc in ap (λ z. Some (f z)) same
-at_mapped f (y ∷ xs) (suc k) x e = at_mapped f xs k x e
 
 -- a publication
 module _ (M₀ M : Machine) (work : WorkWithTrees) (k : ℕ) (p : IsPartly M₀ work k M) where
@@ -140,16 +134,9 @@ module _ (M₀ M : Machine) (work : WorkWithTrees) (k : ℕ) (p : IsPartly M₀ 
     unfolding next
     makes = (record { going = p.going; seat = seated; next = next made at; few = few }, refl)
 
-    more : HasMore M₀.state.graph.arcs N
-    more =
-        let (first, is) = p.more in
-        let (second, grown) = arcs_more M.base M.state (step.Publish 0) T makes in
-        (first ++ second, grown ∙ ap (λ xs. xs ++ second) is ∙ append_assoc M₀.state.graph.arcs first second)
-
     one_more : IsPartly M₀ work (k + 1) N
     one_more = record {
       base = p.base;
-      more = more;
       replayed = replayed_step M p.replayed p.going (step.Publish 0) T makes;
       going = p.going;
       claim = slice_get-append (set M.state.status work.arc (status.Claimed 0 (k + 1))) (all_wait (added M.base.rules M.state.graph made.firing)) work.arc (status.Claimed 0 (k + 1))
@@ -163,7 +150,6 @@ module _ (M₀ M : Machine) (work : WorkWithTrees) (k : ℕ) (p : IsPartly M₀ 
   pub worked : length work.made ≤ k → IsWorked M₀ true M
   worked all = record {
     base = p.base;
-    more = p.more;
     replayed = p.replayed;
     ends = (p.going, free_worked M.base M.state K 0 k work p.claim p.right (omega (arith, all, p.within)));
     left = p.left;
@@ -182,7 +168,6 @@ over M₀ M N work k put.Over not low p (going, full, is) =
     let may : MayStopOver M.base M.state 0 = record { going = p.going; seat = seated M₀ M work k p; next = next M₀ M work k p made at; full = full } in
     subst (IsWorked M₀ false) (sym is) (record {
       base = p.base;
-      more = p.more;
       replayed = replayed_stop M p.replayed p.going (stop.Over 0) (may, refl);
       ends = refl;
       left = p.left;

@@ -2,13 +2,15 @@
 
 ghost use Rattle.std.specs.Prelude.{◌≡◌, ◌<◌, ◌≤◌, ◌+◌, ◌*◌, ◌^◌, length, IfOk};
 ghost use Rattle.qs_pattern.specs.Limits.{most_patterns};
+ghost use Rattle.qs_worker.specs.Crews.{CanRunOn};
 ghost use Rattle.qs_worker.specs.Saturation.{IsSaturated};
 ghost use Rattle.qs_worker.specs.working.Turns.{IsBetween, IsNext, IsPartly, IsWorked, AreAccepted};
 
+use crate::grammar::Grammar;
 use qs_core::{Claim, Put, State};
-use qs_firing::{Joined, View};
+use qs_firing::Joined;
 use qs_graph::Graph;
-use qs_join::{Heads, joined_by};
+use qs_join::joined_by;
 use qs_pattern::Rule;
 use std::alloc::{AllocError, Global};
 
@@ -46,6 +48,29 @@ fn publish_all(state: &mut State, work: &Joined) -> Result<bool, AllocError>
     Ok(true)
 }
 
+/// Does what `saturate_alone` does, with the rules of this grammar.
+pub(crate) fn run_alone(
+    alloc: Global,
+    grammar: &Grammar,
+    start: &Graph,
+    limit: u32,
+) -> Result<State, AllocError>
+    requires { CanRunOn start.now limit }
+    ensures { IfOk result (λ state. IsSaturated grammar.now start.now limit 1 state.machine) }
+{
+    let _valid = start.edges();
+    let rules = grammar.rules();
+    let heads = grammar.heads();
+    let mut state = State::open_shared(alloc, grammar.shared_rules()?, start, limit, 1)?;
+    'arcs: while let Some(arc) = claim_next(&mut state)? {
+        let work = joined_by(alloc, rules, heads, state.view(), arc)?;
+        if !publish_all(&mut state, &work)? {
+            return Ok(state);
+        }
+    }
+    Ok(state)
+}
+
 /// The machine with these rules, which starts from this graph, may do this number of firings and has one seat, behind a
 /// run that one worker makes: it claims arc after arc, and does all firings of which that arc is the newest. The limit
 /// is at least 1, there are fewer than 4,294,967,295 rules, and the numbers of arcs and of nodes of the graph, each
@@ -65,16 +90,6 @@ pub fn saturate_alone(
     requires nodes { start.now.nodes + most_patterns * limit < 2 ^ 32 }
     ensures { IfOk result (λ state. IsSaturated rules.now start.now limit 1 state.machine) }
 {
-    let heads = Heads::new(alloc, rules)?;
-    let mut state = State::open(alloc, rules, start, limit, 1)?;
-    let mut view = View::empty(alloc);
-    view.add(start.edges())?;
-    'arcs: while let Some(arc) = claim_next(&mut state)? {
-        state.catch_up(&mut view)?;
-        let work = joined_by(alloc, rules, &heads, &view, arc)?;
-        if !publish_all(&mut state, &work)? {
-            return Ok(state);
-        }
-    }
-    Ok(state)
+    let grammar = Grammar::new(alloc, rules)?;
+    run_alone(alloc, &grammar, start, limit)
 }

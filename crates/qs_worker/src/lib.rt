@@ -3,9 +3,11 @@
 
 mod alone;
 mod crews;
+mod grammar;
 mod several;
 
 pub use alone::saturate_alone;
 pub use crews::{ByCall, Crew, OneWorker};
-pub use several::saturate;
+pub use grammar::Grammar;
+pub use several::{run_together, saturate};
 pub use std::alloc::AllocError as Memory;

@@ -4,19 +4,20 @@ ghost use Rattle.std.specs.Prelude.{◌≡◌, ◌<◌, ◌≤◌, ◌+◌, ◌*
 ghost use Rattle.qs_pattern.specs.Limits.{most_patterns};
 ghost use Rattle.qs_graph.specs.Graphs.{Arc};
 ghost use Rattle.qs_firing.specs.Work.{IsRightFor};
-ghost use Rattle.qs_join.specs.Heads.{AreHeadsOf};
 ghost use Rattle.qs_core.specs.Core.{HasClaim, IsFree, HasEnded};
 ghost use Rattle.qs_core.specs.Runs.{IsReplayed};
 ghost use Rattle.qs_turn.specs.Passes.{number_of, seen_of};
 ghost use Rattle.qs_board.specs.Seats.{board_base, IsSeatOf, Sees, SeesArcs, SeesEnd};
+ghost use Rattle.qs_worker.specs.Crews.{CanRunOn};
 ghost use Rattle.qs_worker.specs.Saturation.{IsSaturated};
 
+use crate::grammar::Grammar;
 use qs_board::{Board, Pass};
 use qs_core::{Claim, End, Put, State};
 use qs_firing::{Joined, View};
 use qs_graph::Graph;
 use qs_io::Gate;
-use qs_join::{Heads, joined_by};
+use qs_join::joined_by;
 use qs_pattern::Rule;
 use std::alloc::{AllocError, Global};
 use std::sync::Wait;
@@ -25,6 +26,9 @@ use std::thread::Threads;
 
 // How often, at most, a worker gives way to other threads before it asks the board again.
 const MOST_YIELDS: u32 = 64;
+
+// How often a worker other than the first gives way to other threads behind each of its works.
+const PAUSE: u32 = 40;
 
 // For so many arcs of the start a further thread is worth while.
 const ARCS_EACH: usize = 16;
@@ -81,15 +85,13 @@ fn publish_all<R: Wait>(rt: &R, board: &Board, pass: &mut Pass, work: &Joined) -
 fn work_out<R: Wait>(
     rt: &R,
     alloc: Global,
-    rules: &[Rule],
-    heads: &Heads,
+    grammar: &Grammar,
     board: &Board,
     pass: &mut Pass,
     view: &View,
     arc: u32,
 ) -> Result<(), Ended>
-    requires rules { rules.now ≡ (board_base board.now).rules }
-    requires heads { AreHeadsOf rules.now heads.now }
+    requires rules { grammar.now ≡ (board_base board.now).rules }
     requires limit { (board_base board.now).limit < 2 ^ 32 }
     requires own { IsSeatOf board.now pass.old }
     requires within { arc < length view.now }
@@ -102,7 +104,7 @@ fn work_out<R: Wait>(
         (λ S. IsFree (board_base board.now) S (number_of pass.old))) }
     ensures ended { OnErr result (SeesEnd board.now pass.new) }
 {
-    match joined_by(alloc, rules, heads, view, arc) {
+    match joined_by(alloc, grammar.rules(), grammar.heads(), view, arc) {
         Ok(work) => publish_all(rt, board, pass, &work),
         Err(_) => {
             board.halt(rt, pass);
@@ -116,15 +118,13 @@ fn work_out<R: Wait>(
 fn round<R: Wait, G: Gate>(
     rt: &R,
     alloc: Global,
-    rules: &[Rule],
-    heads: &Heads,
+    grammar: &Grammar,
     board: &Board,
     gate: &G,
     pass: &mut Pass,
     view: &mut View,
 ) -> Result<bool, Ended>
-    requires rules { rules.now ≡ (board_base board.now).rules }
-    requires heads { AreHeadsOf rules.now heads.now }
+    requires rules { grammar.now ≡ (board_base board.now).rules }
     requires limit { (board_base board.now).limit < 2 ^ 32 }
     requires own { IsSeatOf board.now pass.old }
     requires arcs { SeesArcs board.now pass.old view.old }
@@ -139,7 +139,7 @@ fn round<R: Wait, G: Gate>(
     match board.claim(rt, pass, view) {
         Ok(Claim::Took(arc)) => {
             gate.pass(pass.number(), arc);
-            work_out(rt, alloc, rules, heads, board, pass, view, arc)?;
+            work_out(rt, alloc, grammar, board, pass, view, arc)?;
             Ok(true)
         }
         Ok(Claim::NotYet) => Ok(false),
@@ -155,14 +155,12 @@ fn round<R: Wait, G: Gate>(
 fn work_on<R: Wait, G: Gate>(
     rt: &R,
     alloc: Global,
-    rules: &[Rule],
-    heads: &Heads,
+    grammar: &Grammar,
     board: &Board,
     gate: &G,
     pass: &mut Pass,
 )
-    requires rules { rules.now ≡ (board_base board.now).rules }
-    requires heads { AreHeadsOf rules.now heads.now }
+    requires rules { grammar.now ≡ (board_base board.now).rules }
     requires limit { (board_base board.now).limit < 2 ^ 32 }
     requires own { IsSeatOf board.now pass.old }
     requires new { seen_of pass.old ≡ [] }
@@ -172,13 +170,25 @@ fn work_on<R: Wait, G: Gate>(
     let mut view = View::empty(alloc);
     let mut times = 1;
     for _ in rt.forever() {
-        match round(rt, alloc, rules, heads, board, gate, pass, &mut view) {
-            Ok(true) => times = 1,
+        match round(rt, alloc, grammar, board, gate, pass, &mut view) {
+            Ok(true) => {
+                times = 1;
+                pause_behind_work(pass.number());
+            }
             Ok(false) => times = give_way(times),
             Err(_) => return,
         }
     }
     unreachable!()
+}
+
+// The pause of the worker with this number behind one of its works. Where works are small, nearly all of their time is
+// turns, which hold up each other, so all but the first worker leave most of them to it; beside a work that takes long,
+// the pause is nothing.
+fn pause_behind_work(number: u32) {
+    if number != 0 {
+        give_way(PAUSE);
+    }
 }
 
 // How many of so many workers are to be threads beside each other, on a graph of so many arcs: no more than there are
@@ -202,15 +212,13 @@ fn threads_for<R: Threads>(rt: &R, workers: usize, arcs: usize) -> usize
 fn work_beside<R: Threads + Wait + Sync, G: Gate + Sync>(
     rt: &R,
     alloc: Global,
-    rules: &[Rule],
-    heads: &Heads,
+    grammar: &Grammar,
     board: &Board,
     gate: &G,
     threads: usize,
     passes: &mut Vec<Pass>,
 )
-    requires rules { rules.now ≡ (board_base board.now).rules }
-    requires heads { AreHeadsOf rules.now heads.now }
+    requires rules { grammar.now ≡ (board_base board.now).rules }
     requires limit { (board_base board.now).limit < 2 ^ 32 }
     requires new { All (λ p. IsSeatOf board.now p × (seen_of p ≡ [])) passes.old.items }
     requires some { 1 ≤ threads }
@@ -222,10 +230,10 @@ fn work_beside<R: Threads + Wait + Sync, G: Gate + Sync>(
         passes.as_mut_slice(),
         threads,
         &|_: usize, pass: &mut Pass|
-            requires { (rules.now ≡ (board_base board.now).rules) × AreHeadsOf rules.now heads.now
-                × ((board_base board.now).limit < 2 ^ 32) × IsSeatOf board.now pass.now × (seen_of pass.now ≡ []) }
+            requires { (grammar.now ≡ (board_base board.now).rules) × ((board_base board.now).limit < 2 ^ 32)
+                × IsSeatOf board.now pass.now × (seen_of pass.now ≡ []) }
             ensures { IsSeatOf board.entry.now pass.exit.now × SeesEnd board.entry.now pass.exit.now }
-        { work_on(rt, alloc, rules, heads, board, gate, pass) },
+        { work_on(rt, alloc, grammar, board, gate, pass) },
     );
 }
 
@@ -283,9 +291,27 @@ pub fn saturate<R: Threads + Wait + Sync, G: Gate + Sync>(
     requires nodes { start.now.nodes + most_patterns * limit < 2 ^ 32 }
     ensures { IfOk result (λ state. IsSaturated rules.now start.now limit workers state.machine) }
 {
-    let heads = Heads::new(alloc, rules)?;
-    let (board, mut passes) = Board::open(alloc, rules, start, limit, workers)?;
+    let grammar = Grammar::new(alloc, rules)?;
+    run_together(rt, alloc, &grammar, start, limit, workers, gate)
+}
+
+/// Does what `saturate` does, with the rules of this grammar.
+pub fn run_together<R: Threads + Wait + Sync, G: Gate + Sync>(
+    rt: &R,
+    alloc: Global,
+    grammar: &Grammar,
+    start: &Graph,
+    limit: u32,
+    workers: u32,
+    gate: &G,
+) -> Result<State, AllocError>
+    requires workers { 1 ≤ workers }
+    requires can_run { CanRunOn start.now limit }
+    ensures { IfOk result (λ state. IsSaturated grammar.now start.now limit workers state.machine) }
+{
+    let rules = grammar.shared_rules()?;
+    let (board, mut passes) = Board::open_shared(alloc, rules, start, limit, workers)?;
     let threads = threads_for(rt, workers as usize, start.edges().len());
-    work_beside(rt, alloc, rules, &heads, &board, gate, threads, &mut passes);
+    work_beside(rt, alloc, grammar, &board, gate, threads, &mut passes);
     unless_halted(finish(board, passes))
 }

@@ -1,10 +1,9 @@
 -- The turns of one seat, which has the number 0: it claims an arc, and publishes all of its work.
-use Rattle.std.specs.Prelude.{ℕ, ◌+◌, ◌-◌, ◌*◌, ◌≡◌, ◌≤◌, Bool, true, false, List, [], ◌∷◌, ◌++◌, length, slice_get}
+use Rattle.std.specs.Prelude.{ℕ, ◌+◌, ◌-◌, ◌*◌, ◌≡◌, ◌≤◌, Bool, true, false, List, [], ◌∷◌, length, slice_get}
 use Rattle.std.specs.Prelude.{Option, Some, None}
 use Rattle.qs_tree.specs.Lists.{◌∈◌}
 use Rattle.qs_pattern.specs.Limits.{most_patterns}
 use Rattle.qs_pattern.specs.Rules.{Rule, IsAccepted}
-use Rattle.qs_graph.specs.Graphs.{Arc}
 use Rattle.qs_firing.specs.Work.{WorkWithTrees, IsRightFor}
 use Rattle.qs_core.specs.declared.step.Step.TheVariants as step
 use Rattle.qs_core.specs.declared.step.Status.{Status}
@@ -32,10 +31,6 @@ waiting (s ∷ ss) = waiting_one s + waiting ss
 abbrev pub left_to_claim : Machine → ℕ
 left_to_claim M = waiting M.state.status + most_patterns * (M.base.limit - length M.state.done)
 
--- The arcs of N are those of M, followed by more.
-abbrev pub HasMore : List Arc → Machine → Type 0
-HasMore arcs N = (more : List Arc) × (N.state.graph.arcs ≡ arcs ++ more)
-
 -- The machine with this base goes on, and the seat is free.
 pub record IsBetween (B : Base) (M : Machine) : Type 0 where
   pub base : M.base ≡ B
@@ -53,7 +48,6 @@ IsNext M None N = (N.base ≡ M.base) × IsReplayed N × IsClosed N.state
 -- From M on, where the seat had claimed the arc of this work, its first k firings were published, which led to N.
 pub record IsPartly (M : Machine) (work : WorkWithTrees) (k : ℕ) (N : Machine) : Type 0 where
   pub base : N.base ≡ M.base
-  pub more : HasMore M.state.graph.arcs N
   pub replayed : IsReplayed N
   pub going : N.state.stop ≡ None
   pub claim : HasClaim N.state 0 work.arc k
@@ -69,7 +63,6 @@ EndsWork false N = IsStopped N.state end.Over
 
 pub record IsWorked (M : Machine) (all : Bool) (N : Machine) : Type 0 where
   pub base : N.base ≡ M.base
-  pub more : HasMore M.state.graph.arcs N
   pub replayed : IsReplayed N
   pub ends : EndsWork all N
   pub left : left_to_claim N ≤ left_to_claim M

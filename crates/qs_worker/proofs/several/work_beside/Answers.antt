@@ -1,9 +1,10 @@
 use denote.Param.Send.{sendable}
 use Rattle.std.proofs.Common.{rules, subst}
 use Rattle.std.proofs.Crossing as heap
-use Rattle.qs_join.proofs.heads.Heads.TheSendSync as heads
+use Rattle.qs_worker.proofs.Crossing.{grammar_sync}
+use Rattle.qs_turn.proofs.turns.Pass.TheSendSync as passes
 use Rattle.qs_board.specs.Seats.{IsSeatOf, SeesEnd}
-use Rattle.qs_board.proofs.Crossing.{board_sync, rule_sync}
+use Rattle.qs_board.proofs.Crossing.{board_sync, kept_send}
 use Rattle.qs_worker.proofs.Working.{still_all}
 use Rattle.qs_worker.proofs.several.work_beside.Goals as goal
 
@@ -16,4 +17,7 @@ returns-clause-ended g c =
     subst (λ p. IsSeatOf c.args.board.now p × SeesEnd c.args.board.now p) at.left (search rules))
 
 pub for_each_mut-requires-sync-F : goal.for_each_mut-requires-sync-F
-for_each_mut-requires-sync-F g c κs within = search (sendable, board_sync, rule_sync, heads.the_sync, heap.sync) depth 40
+for_each_mut-requires-sync-F g c κs within = search (sendable, board_sync, grammar_sync, heap.sync) depth 40
+
+pub for_each_mut-requires-send-T : goal.for_each_mut-requires-send-T
+for_each_mut-requires-send-T g c κs within = search (sendable, passes.the_send, kept_send) depth 40

@@ -1,4 +1,4 @@
-use Rattle.std.proofs.Common.{List, subst}
+use Rattle.std.proofs.Common.{List, subst, ◌∙◌}
 use Rattle.std.proofs.lemmas.Result.{on_ok_weaker}
 use Rattle.qs_pattern.specs.Rules.{Rule}
 use Rattle.qs_firing.specs.Work.{IsRightFor}
@@ -9,7 +9,8 @@ use Rattle.qs_worker.proofs.several.work_out.Goals as goal
 
 pub publish_all-requires-clause-right : goal.publish_all-requires-clause-right
 publish_all-requires-clause-right g c =
-    right_all (board_base c.args.board.now) (seen_of c.args.pass.now) c.args.view.now c.in-Ok.work c.requires.view (subst (λ (R : List Rule). IsRightFor R c.args.view.now c.in-Ok.work) c.requires.rules c.in-Ok.ensures.right)
+    right_all (board_base c.args.board.now) (seen_of c.args.pass.now) c.args.view.now c.in-Ok.work c.requires.view
+    (subst (λ (R : List Rule). IsRightFor R c.args.view.now c.in-Ok.work) (c.rules.ensures.value ∙ c.requires.rules) c.in-Ok.ensures.right)
 
 pub returns-in-Ok-clause-arcs : goal.returns-in-Ok-clause-arcs
 returns-in-Ok-clause-arcs g c =
