@@ -1,6 +1,7 @@
 -- What the end of a run shows of the rounds.
 use Rattle.std.proofs.Common.{◌≡◌, ℕ, ◌+◌, ◌*◌, ◌≤◌, ◌⊎◌, inl, inr, ⊎_elim, List, length, Option, Some, None, Bool, true, false, not, refl, sym, ◌∙◌, ap, subst, arith}
 use Rattle.std.specs.Option.{option_map, option_eq}
+use Rattle.qs_worker.proofs.Turns.{not_stopped}
 use Rattle.qs_pattern.specs.Rules.{Rule}
 use Rattle.qs_graph.specs.Graphs.{QGraph}
 use Rattle.qs_core.specs.contracts.answers.EndPartialEq.TheImpl as same_end
@@ -21,10 +22,6 @@ use Rattle.qs_canon.proofs.Naming.{rounds_named}
 use Rattle.qs_clean.specs.Cleaning.{IsClosureOfValid}
 use Rattle.qs_worker.specs.Saturation.{IsSaturated}
 use Rattle.qs_cascade.specs.ClosureEnds.{HasGrownWithin, HasNoNewLabels}
-
-not_stopped : (o : Option Stop) (e : End) → o ≡ None → option_map end_of_stop o ≡ Some e → ⊥
-not_stopped None e none stopped = cc
-not_stopped (Some s) e none stopped = cc
 
 -- whether it is another end than closed
 abbrev is_other : Option End → Bool

@@ -58,3 +58,9 @@ abbrev pub MakesNoLabels : List Rule → QGraph → StageEnd → Type 0
 MakesNoLabels R G e =
     (n : ℕ) → ((rule : Rule) → rule ∈ R → ArePatternsNamed n rule.right)
     → ((arc : Arc) → arc ∈ G.arcs → IsNamed n arc.tree) → IsEndNamed n e
+
+-- What is answered where it is asked what these rules leave of G with at most L firings.
+pub record IsAnswerOfStage (R : List Rule) (G : QGraph) (L : ℕ) (e : StageEnd) : Type 0 where
+  pub end : IsStageEnd R G L e
+  pub grows : GrowsWithin G L e
+  pub labels : MakesNoLabels R G e

@@ -1,10 +1,9 @@
 //! What a grammar leaves.
 
-ghost use Rattle.std.specs.Prelude.{◌≡◌, ◌<◌, ◌≤◌, ◌+◌, ◌-◌, ◌*◌, ◌^◌, length, IfOk, IfSome};
-ghost use Rattle.qs_pattern.specs.Limits.{most_patterns};
+ghost use Rattle.std.specs.Prelude.{◌≡◌, ◌<◌, ◌≤◌, ◌^◌, length, IfOk, IfSome};
 ghost use Rattle.qs_clean.specs.Cleaning.{IsClosureOfValid};
-ghost use Rattle.qs_worker.specs.Crews.{CanBeRun};
-ghost use Rattle.qs_cascade.specs.Stages.{IsEndBehind, IsStageEnd, GrowsWithin, MakesNoLabels};
+ghost use Rattle.qs_worker.specs.Crews.{CanRunOn};
+ghost use Rattle.qs_cascade.specs.Stages.{IsAnswerOfStage, IsEndBehind};
 
 use crate::closing::closure_by;
 use qs_canon::Closure;
@@ -12,7 +11,7 @@ use qs_clean::clean;
 use qs_graph::Graph;
 use qs_io::Gate;
 use qs_pattern::Rule;
-use qs_worker::{ByCall, Crew, OneWorker, saturate};
+use qs_worker::{ByCall, Crew, Grammar, OneWorker, run_together};
 use std::alloc::{AllocError, Global};
 use std::sync::Wait;
 use std::thread::Threads;
@@ -33,42 +32,35 @@ pub enum StageEnd {
 pub fn stage_by<C: Crew>(
     alloc: Global,
     crew: &C,
-    rules: &[Rule],
+    grammar: &Grammar,
     start: &Graph,
     limit: u32,
 ) -> Result<StageEnd, AllocError>
     requires crew { C.ready crew.now }
-    requires limit { 1 ≤ limit }
-    requires rules { length rules.now < 4294967295 }
-    requires arcs { length start.now.arcs + most_patterns * limit ≤ 2 ^ 32 - 1 }
-    requires nodes { start.now.nodes + most_patterns * limit ≤ 2 ^ 32 - 1 }
-    ensures end { IfOk result (λ end. IsStageEnd rules.now start.now limit end) }
-    ensures grows { IfOk result (λ end. GrowsWithin start.now limit end) }
-    ensures labels { IfOk result (λ end. MakesNoLabels rules.now start.now end) }
+    requires can_run { CanRunOn start.now limit }
+    ensures { IfOk result (IsAnswerOfStage grammar.now start.now limit) }
 {
-    let closure = closure_by(alloc, crew, rules, start, limit)?;
+    let closure = closure_by(alloc, crew, grammar, start, limit)?;
     end_behind(alloc, &closure)
 }
 
-/// Does what `stage_by` does, by one worker, alone. It always returns.
+/// Does what `stage_by` does, for these rules, by one worker, alone. There are fewer than 4,294,967,295 rules. It
+/// always returns.
 pub fn stage_alone(
     alloc: Global,
     rules: &[Rule],
     start: &Graph,
     limit: u32,
 ) -> Result<StageEnd, AllocError>
-    requires limit { 1 ≤ limit }
     requires rules { length rules.now < 4294967295 }
-    requires arcs { length start.now.arcs + most_patterns * limit ≤ 2 ^ 32 - 1 }
-    requires nodes { start.now.nodes + most_patterns * limit ≤ 2 ^ 32 - 1 }
-    ensures end { IfOk result (λ end. IsStageEnd rules.now start.now limit end) }
-    ensures grows { IfOk result (λ end. GrowsWithin start.now limit end) }
-    ensures labels { IfOk result (λ end. MakesNoLabels rules.now start.now end) }
+    requires can_run { CanRunOn start.now limit }
+    ensures { IfOk result (IsAnswerOfStage rules.now start.now limit) }
 {
-    stage_by(alloc, &OneWorker, rules, start, limit)
+    let grammar = Grammar::new(alloc, rules)?;
+    stage_by(alloc, &OneWorker, &grammar, start, limit)
 }
 
-/// Does what `stage_by` does, by so many workers, at least 1, as threads beside each other, which pass the gate with
+/// Does what `stage_alone` does, by so many workers, at least 1, as threads beside each other, which pass the gate with
 /// each arc that they claim. It may wait, also forever.
 pub fn stage<R: Threads + Wait + Sync, G: Gate + Sync>(
     rt: &R,
@@ -80,18 +72,15 @@ pub fn stage<R: Threads + Wait + Sync, G: Gate + Sync>(
     gate: &G,
 ) -> Result<StageEnd, AllocError>
     requires workers { 1 ≤ workers }
-    requires limit { 1 ≤ limit }
     requires rules { length rules.now < 4294967295 }
-    requires arcs { length start.now.arcs + most_patterns * limit ≤ 2 ^ 32 - 1 }
-    requires nodes { start.now.nodes + most_patterns * limit ≤ 2 ^ 32 - 1 }
-    ensures end { IfOk result (λ end. IsStageEnd rules.now start.now limit end) }
-    ensures grows { IfOk result (λ end. GrowsWithin start.now limit end) }
-    ensures labels { IfOk result (λ end. MakesNoLabels rules.now start.now end) }
+    requires can_run { CanRunOn start.now limit }
+    ensures { IfOk result (IsAnswerOfStage rules.now start.now limit) }
 {
-    let run = |alloc: Global, rules: &[Rule], start: &Graph, limit: u32|
-        requires { CanBeRun rules.now start.now limit × (1 ≤ workers) }
-    { saturate(rt, alloc, rules, start, limit, workers, gate) };
-    stage_by(alloc, &ByCall { run }, rules, start, limit)
+    let run = |alloc: Global, grammar: &Grammar, start: &Graph, limit: u32|
+        requires { CanRunOn start.now limit × (1 ≤ workers) }
+    { run_together(rt, alloc, grammar, start, limit, workers, gate) };
+    let grammar = Grammar::new(alloc, rules)?;
+    stage_by(alloc, &ByCall { run }, &grammar, start, limit)
 }
 
 /// What a grammar leaves by the closure of its rules, where it has one: what cleaning leaves of it. It has fewer than
