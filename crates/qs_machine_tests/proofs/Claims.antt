@@ -3,6 +3,7 @@ use Rattle.std.proofs.Common.{◌≡◌, ℕ, zero, suc, ◌+◌, ◌<◌, Bool,
 use Rattle.std.specs.Prelude.{◌↔◌, IsTrue, if◌then◌else◌}
 use Rattle.std.proofs.lemmas.Option.{slice_get_within}
 use Rattle.std.proofs.lemmas.List.{length-map}
+use Rattle.qs_tree.proofs.Elements.{set_here, set_other, set_cases}
 use Rattle.qs_tree.proofs.Members.{at_place}
 use Rattle.qs_pattern.specs.Rules.{Rule}
 use Rattle.qs_graph.proofs.Paths.{slice_get-append}
@@ -21,8 +22,7 @@ use Rattle.qs_core.specs.Core.{Base, CoreState, opening, all_wait, rest_one, Has
 use Rattle.qs_core.specs.Runs.{Machine, with_step, IsReplayed}
 use Rattle.qs_core.specs.Answers.{opened, RestsIfClaimed, IsClaimed, IsPublished, IsHalted}
 use Rattle.qs_machine_tests.specs.working.Claims.{AreHeld}
-use Rattle.qs_core.proofs.Places.{all_waiting, set_cases, more_cases, rest_cases}
-use Rattle.qs_core.proofs.Tables.{set_here, set_other}
+use Rattle.qs_core.proofs.Places.{all_waiting, more_cases, rest_cases}
 use Rattle.qs_core.proofs.Runs.{keeps, status_of_rested}
 use Rattle.qs_core.proofs.Staying.{free_worked}
 

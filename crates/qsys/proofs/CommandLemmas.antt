@@ -4,6 +4,7 @@ use Rattle.std.specs.List.{slice_index_or}
 use Rattle.std.specs.Str.{bytes_eq}
 use Rattle.std.proofs.Math.ListN.{get_or-map}
 use Rattle.std.proofs.lemmas.List.{length-map, nil_from_length}
+use Rattle.std.proofs.lemmas.Bool.{not-true}
 use borrow.Author.Tests.{eqb-true}
 use Rattle.clap.specs.Facts.{args_of, groups_of, least_values, unwrap_or_range}
 use Rattle.clap.specs.Texts.{items_of}
@@ -64,10 +65,6 @@ simple_parts a h =
     && (not a.require_equals && (not a.last && not a.global)))))
     h
 
-is_false : (b : Bool) → not b ≡ true → b ≡ false
-is_false true e = absurd (cc e)
-is_false false e = refl
-
 all_simple : (k : ℕ) (r : Rule) → k < 5 → (slice_index_or rules k r).is_simple ≡ true
 all_simple zero r lt = refl
 all_simple (suc zero) r lt = refl
@@ -90,7 +87,7 @@ module _ (c : Command) (is : app_of c ≡ simple_command) where
   no_groups = empty_list (groups_of c) plain_fields.0
 
   no_globals : (out-Command c).has_globals ≡ false
-  no_globals = is_false _ plain_fields.2
+  no_globals = not-true _ plain_fields.2
 
   names_no_group : NamesNoGroup c
   names_no_group k d lt =

@@ -2,6 +2,7 @@
 use Rattle.std.proofs.Common.{◌≡◌, ◌∙◌, ℕ, zero, suc, ◌+◌, ◌<◌, ◌≤◌, List, [], ◌∷◌, ◌++◌, length, map, drop, Option, Some, None, refl, sym, ap, ap₂, subst, inl, inr, ⊎_elim, arith, append_assoc, append-nil}
 use Rattle.std.specs.List.{slice_index_or}
 use Rattle.std.proofs.Math.ListN.{drop_of_length-le}
+use Rattle.qs_levels.proofs.Numbering.{from_once}
 use Rattle.qs_tree.specs.declared.cell.Label.{Label}
 use Rattle.qs_tree.specs.Lists.{◌∈◌}
 use Rattle.qs_tree.proofs.Members.{in_map, from_append}
@@ -13,7 +14,7 @@ use Rattle.qs_pattern.specs.Rules.{Rule}
 use Rattle.qs_levels.specs.Tops.{labels_of_head, top_labels, labels_at_tops}
 use Rattle.qs_levels.specs.Certificates.{LevelCertificate, IsFound}
 use Rattle.qs_levels.proofs.Existence.{one_found, something_found}
-use Rattle.qs_levels.proofs.ExistenceLists.{from_each_once, from_tops_of}
+use Rattle.qs_levels.proofs.ExistenceLists.{from_tops_of}
 use Rattle.qs_deck.specs.declared.system.System.{System}
 use Rattle.qs_deck.specs.Decks.{Grammar, grammar_of}
 use Rattle.qs_deck.specs.Named.{IsRuleNamed}
@@ -56,7 +57,7 @@ pub found_named : (n : ℕ) (rules : List Rule) → ((rule : Rule) → rule ∈ 
 found_named n rules named None is = tt
 found_named n rules named (Some c) is = λ level among.
     let standing : level.0 ∈ map (λ p. p.0) c.of = in_map (λ (p : Label × ℕ). p.0) c.of level among in
-    rules_named n rules named level.0 (from_each_once (labels_at_tops rules) level.0 (subst (λ (ls : List Label). level.0 ∈ ls) is.labels standing))
+    rules_named n rules named level.0 (from_once (labels_at_tops rules) level.0 (subst (λ (ls : List Label). level.0 ∈ ls) is.labels standing))
 
 -- one grammar more of which the levels were told
 pub told_further : (names : List (List ℕ)) (systems : List System) (i : ℕ) (system : System) → drop i systems ≡ system ∷ drop (i + 1) systems → (text : List ℕ)

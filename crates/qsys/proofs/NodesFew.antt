@@ -7,6 +7,7 @@ use Rattle.std.specs.Cmp.{unsigned_Decides}
 use Rattle.std.proofs.lemmas.Cmp.{nat_eq_equiv}
 use Rattle.std.proofs.lemmas.List.{length-map}
 use Rattle.std.proofs.lemmas.Map.Made.{is_member-Decides, length-le_from_is_member}
+use Rattle.qs_graphtext.proofs.GraphsOfChains.{member_contains}
 use Rattle.qs_tree.specs.Lists.{◌∈◌}
 use Rattle.qs_tree.proofs.Members.{in_map}
 use Rattle.qs_graph.specs.Graphs.{Arc, QGraph, IsValid}
@@ -40,11 +41,6 @@ within : (n q : ℕ) → Contains (down_from n) q → (1 ≤ q) × (q ≤ n)
 within zero q (k, h, e) = absurd (omega arith)
 within (suc n) q (zero, h, e) = (omega arith, omega arith)
 within (suc n) q (suc k, h, e) = let r = within n q (k, omega arith, e) in (r.0, omega (arith, r.1))
-
-member_contains : (ns : List ℕ) (n : ℕ) → n ∈ ns → Contains ns n
-member_contains [] n i = absurd i
-member_contains (m ∷ ns) n (inl e) = (0, omega arith, sym e)
-member_contains (m ∷ ns) n (inr i) = let r = member_contains ns n i in (suc r.0, omega (arith, r.1), r.2)
 
 module _ (G : QGraph) (valid : IsValid G) where
   -- the entry, and the nodes into which arcs lead

@@ -2,6 +2,7 @@
 use Rattle.std.proofs.Common.{◌≡◌, ℕ, List, [], ◌∷◌, Option, Some, None, refl, sym, ap, ◌∙◌, subst, inl, inr, arith}
 use Rattle.std.specs.Io.KnownBytes.{append_known}
 use Rattle.std.proofs.lemmas.List.{append-nil}
+use Rattle.qsys.proofs.GoingOn.{nothing_more}
 use Rattle.qs_io.specs.Devices.{AppendsProperPrefix}
 use Rattle.qs_io.specs.working.Devices.{AppendsPrefix}
 use Rattle.qs_lex.specs.declared.refusal.Refusal.{Refusal}
@@ -56,10 +57,6 @@ pub record OnePhraseText : Type 0 where
   pub refusal : (text : List ℕ) (r s : Refusal) → IsRefusedFor IsPhraseFault text r → IsRefusedFor IsPhraseFault text s → r ≡ s
   pub not_both : (text : List ℕ) (version : ℕ) (names : List (List ℕ)) (grammars : List Grammar) (lines : List (List Label)) (r : Refusal)
       → IsPhraseText text version names grammars lines → IsRefusedFor IsPhraseFault text r → ⊥
-
-nothing_more : (known : Option (List ℕ)) → known ≡ append_known known []
-nothing_more None = refl
-nothing_more (Some bytes) = ap (λ (b : List ℕ). Some b) (sym (append-nil bytes))
 
 module _ (one_outcome : OneOutcome) where
   -- with a deck one thing is done

@@ -5,6 +5,7 @@ use Rattle.std.specs.List.{list_all}
 use Rattle.std.proofs.lemmas.Bool.{and_parts, or_parts}
 use Rattle.std.proofs.lemmas.Bool.Decides.{nat_tests}
 use Rattle.std.proofs.lemmas.List.{drop-drop}
+use Rattle.qs_ruletext.proofs.OneLine.{label_ends_none}
 use Rattle.qs_lex.specs.Characters.{ends_line, is_label, Each}
 use Rattle.qs_lex.specs.Spelling.{between_quotes, between_dashes, name_of as word_name, since, IsInVersion}
 use Rattle.qs_lex.specs.Tokens.{version_of, blank_len, next_place, bytes_of, StandsIn, Reads}
@@ -46,13 +47,9 @@ Shows text S piece = (before : Sort) (left : List ℕ) → Closes left → IsAt 
 abbrev pub IsOneThat : (Token → Type 0) → List Token → List Token → Type 0
 IsOneThat P ts rest = (t : Token) × (ts ≡ t ∷ rest) × P t
 
--- a label character ends no line
-label_line : (b : ℕ) → is_label b ≡ true → not (ends_line b) ≡ true
-label_line b e = grind (arith, nat_tests)
-
 labels_line : (name : List ℕ) → Each is_label name → Each (λ b. not (ends_line b)) name
 labels_line [] each = tt
-labels_line (b ∷ name) each = (label_line b each.0, labels_line name each.1)
+labels_line (b ∷ name) each = (label_ends_none b each.0, labels_line name each.1)
 
 -- where a label can end, no quote stands
 no_quote : (left : List ℕ) → Closes left → NoQuote left

@@ -1,7 +1,8 @@
 -- The grammars that are run on a line of words, one after another.
-use Rattle.std.proofs.Common.{◌≡◌, ◌<◌, ◌≤◌, ◌+◌, ◌*◌, ℕ, suc, Option, Some, None, List, [], ◌∷◌, length, map, drop, get_or, refl, sym, ap, subst, inl, inr, arith}
+use Rattle.std.proofs.Common.{◌≡◌, ◌<◌, ◌≤◌, ◌+◌, ◌*◌, ℕ, zero, suc, Option, Some, None, List, [], ◌∷◌, length, map, drop, get_or, refl, sym, ap, subst, inl, inr, arith}
 use Rattle.std.proofs.Math.ListN.{drop_of_length-le}
 use Rattle.std.proofs.lemmas.List.{length-map}
+use Rattle.qs_graph.proofs.Lay.{tree_in_chain}
 use Rattle.qs_tree.specs.declared.cell.Label.{Label}
 use Rattle.qs_tree.specs.Lists.{◌∈◌}
 use Rattle.qs_tree.specs.Trees.{Tree}
@@ -27,8 +28,23 @@ use Rattle.qsys.specs.Cascading.{AreAccepted}
 use Rattle.qsys.specs.PhraseTexts.{EndsWith}
 use Rattle.qsys.specs.declared.telling.Telling.TheVariants as telling
 use Rattle.qsys.specs.working.Cascading.{CanGoOn}
+use Rattle.qsys.specs.working.Phrasing.{AreReady}
 use Rattle.qsys.proofs.GoingOn.{among_all, each_right, goes_on_with, next_system, rest_accepted}
 use Rattle.qsys.proofs.PhrasesTold.{none_ends, more_ends, empty_ends, limit_ends, words_valid}
+
+-- the system of a grammar that is ready
+ready_from : (systems : List System) (i : ℕ) (rules : List Rule) → rules ≡ get_or (map (λ (s : System). s.rules.items) systems) i rules → i < length (map (λ (s : System). s.rules.items) systems)
+    → (system : System) × (system ≡ get_or systems i system) × (i < length systems) × (rules ≡ system.rules.items)
+ready_from [] i rules is low = absurd (omega arith)
+ready_from (s ∷ systems) zero rules is low = (s, refl, omega arith, is)
+ready_from (s ∷ systems) (suc i) rules is low =
+    let (system, at, short, same) = ready_from systems i rules is (omega (arith, low)) in
+    (system, at, omega (arith, short), same)
+
+pub ready_at : (systems : List System) (ready : List (List Rule)) → AreReady systems ready → (i : ℕ) (rules : List Rule) → rules ≡ get_or ready i rules → i < length ready
+    → (system : System) × (system ≡ get_or systems i system) × (i < length systems) × (rules ≡ system.rules.items)
+ready_at systems ready all i rules is low =
+    ready_from systems i rules (subst (λ (rs : List (List Rule)). rules ≡ get_or rs i rules) all is) (omega (arith, low, ap (λ (rs : List (List Rule)). length rs) all))
 
 -- what the grammars from one on leave of a graph is what all leave of the first one
 abbrev pub GoesOn : ℕ → List System → ℕ → QGraph → QGraph → Type 0
@@ -91,14 +107,6 @@ module _ (L : ℕ) (names : List (List ℕ)) (systems : List System) (start now 
 pub run_to_end : (L : ℕ) (systems : List System) (i : ℕ) (start now : QGraph) → length systems ≤ i → GoesOn L systems i start now → EndsWith L (map grammar_of systems) start all_done (Some now)
 run_to_end L systems i start now past goes =
     goes all_done (Some now) (subst (λ (left : List System). EndsWith L (map grammar_of left) now all_done (Some now)) (sym (drop_of_length-le systems past)) (none_ends L now))
-
--- the trees of a chain
-tree_in_chain : (a : ℕ) (ts : List Tree) (next b : ℕ) (arc : Arc) → arc ∈ chain a ts next b → arc.tree ∈ ts
-tree_in_chain a [] next b arc i = absurd i
-tree_in_chain a (t ∷ []) next b arc (inl e) = inl (ap (λ (x : Arc). x.tree) e)
-tree_in_chain a (t ∷ []) next b arc (inr i) = absurd i
-tree_in_chain a (t ∷ u ∷ ts) next b arc (inl e) = inl (ap (λ (x : Arc). x.tree) e)
-tree_in_chain a (t ∷ u ∷ ts) next b arc (inr i) = inr (tree_in_chain next (u ∷ ts) (next + 1) b arc i)
 
 -- the graph of a line of words can be run on
 pub words_can_go_on : (L most : ℕ) (names : List (List ℕ)) (words : List Label) (systems : ℕ) → 0 < length words → length words ≤ 65536 → ((word : Label) → word ∈ words → word.0 < length names)

@@ -1,6 +1,7 @@
 -- Where a token stands at what is written as a quoted label, it is this label, and so the label has no end of a line.
 use Rattle.std.proofs.Common.{◌≡◌, ℕ, Bool, true, false, not, cond, eqb, List, [], ◌∷◌, ◌++◌, drop, get_or, refl, sym, ap, ◌∙◌, subst, arith, append_assoc}
 use Rattle.std.proofs.lemmas.Bool.{eqb-true, eqb-false}
+use Rattle.qs_lex.proofs.Quotes.{undouble_step}
 use Rattle.qs_lex.specs.Characters.{is_label, is_variable_letter, ends_line, BeginsWithNo, Each}
 use Rattle.qs_lex.specs.Spelling.{Spells, EndsBefore, doubled, between_quotes}
 use Rattle.qs_lex.specs.declared.token.Kind.{Kind}
@@ -18,19 +19,6 @@ closed x d rest true e none same =
     cc
 closed x d rest false e none same = eqb-false x 34 e (ap (λ bs. get_or bs 0 0) same)
 
--- the first character of a text goes by the front of its doubling
-first_same : (x y : ℕ) (a b d e : List ℕ) (q r : Bool) → eqb x 34 ≡ q → eqb y 34 ≡ r → (d ≡ e → a ≡ b)
-    → (cond q (34 ∷ 34 ∷ []) (x ∷ [])) ++ d ≡ (cond r (34 ∷ 34 ∷ []) (y ∷ [])) ++ e → x ∷ a ≡ y ∷ b
-first_same x y a b d e true true q r rest same =
-    let tails : d ≡ e = ap (drop 2) same in
-    λ i. (eqb-true x 34 q ∙ sym (eqb-true y 34 r)) i ∷ rest tails i
-first_same x y a b d e true false q r rest same = absurd (eqb-false y 34 r (sym (ap (λ bs. get_or bs 0 0) same)))
-first_same x y a b d e false true q r rest same = absurd (eqb-false x 34 q (ap (λ bs. get_or bs 0 0) same))
-first_same x y a b d e false false q r rest same =
-    let head : x ≡ y = ap (λ bs. get_or bs 0 0) same in
-    let tails : d ≡ e = ap (drop 1) same in
-    λ i. head i ∷ rest tails i
-
 -- what is doubled ends at the first quote that is alone
 one_doubled : (a b r s : List ℕ) → NoQuote r → NoQuote s → doubled a ++ (34 ∷ r) ≡ doubled b ++ (34 ∷ s) → a ≡ b
 one_doubled [] [] r s none also same = refl
@@ -39,7 +27,7 @@ one_doubled [] (y ∷ b) r s none also same =
 one_doubled (x ∷ a) [] r s none also same =
     absurd (closed x (doubled a ++ (34 ∷ r)) s (eqb x 34) refl also (sym (append_assoc (cond (eqb x 34) (34 ∷ 34 ∷ []) (x ∷ [])) (doubled a) (34 ∷ r)) ∙ same))
 one_doubled (x ∷ a) (y ∷ b) r s none also same =
-    first_same x y a b (doubled a ++ (34 ∷ r)) (doubled b ++ (34 ∷ s)) (eqb x 34) (eqb y 34) refl refl (one_doubled a b r s none also)
+    undouble_step x y a b (doubled a ++ (34 ∷ r)) (doubled b ++ (34 ∷ s)) (eqb x 34) (eqb y 34) refl refl (one_doubled a b r s none also)
     (sym (append_assoc (cond (eqb x 34) (34 ∷ 34 ∷ []) (x ∷ [])) (doubled a) (34 ∷ r)) ∙ same ∙ append_assoc (cond (eqb y 34) (34 ∷ 34 ∷ []) (y ∷ [])) (doubled b) (34 ∷ s))
 
 -- the first byte of what stands there

@@ -5,6 +5,8 @@ use Rattle.std.proofs.lemmas.Bool.Decides.{nat_tests}
 use Rattle.std.proofs.lemmas.List.{take_more, map_push, length-map}
 use Rattle.std.proofs.lemmas.List.Elements.{filter_map-append}
 use Rattle.std.proofs.lemmas.Option.{slice_get_within}
+use Rattle.qs_graph.proofs.Numbers.{in_take}
+use Rattle.qs_graph.proofs.Paths.{leads_low}
 use Rattle.qs_tree.specs.Lists.{◌∈◌}
 use Rattle.qs_tree.specs.Text.{tree_text}
 use Rattle.qs_tree.proofs.Members.{in_get_or, at_place}
@@ -52,12 +54,6 @@ length-trees arcs (k ∷ ks) within =
     ap (λ (ys : List Arc). length (map (λ (a : Arc). a.tree) ys)) (filter_map-append (slice_get arcs) (k ∷ []) ks ∙ ap (λ ys. ys ++ arcs_at arcs ks) (one_arc arcs k arc at))
     ∙ ap suc rest
 
-in_front : (xs : List ℕ) (n k : ℕ) → k ∈ take n xs → k ∈ xs
-in_front xs zero k i = absurd i
-in_front [] (suc n) k i = absurd i
-in_front (x ∷ xs) (suc n) k (inl e) = inl e
-in_front (x ∷ xs) (suc n) k (inr i) = inr (in_front xs n k i)
-
 -- the next tree of a reading
 pub reading_on : (names : List (List ℕ)) (arcs : List Arc) (path : List ℕ) (i k : ℕ) (arc : Arc) (b : Bool) (start before after : List ℕ) → i < length path → k ≡ get_or path i 0
     → arc ≡ get_or arcs k arc → ((j : ℕ) → j ∈ path → j < length arcs) → b ≡ nat_lt 0 i → before ≡ start ++ joined (codes " ") (map (tree_text names) (trees_on arcs (take i path)))
@@ -70,7 +66,7 @@ reading_on names arcs path i k arc b start before after low is at within e old n
     ap (λ ks. map (tree_text names) (trees_on arcs ks)) all ∙ ap (map (tree_text names)) (trees_more arcs (take i path) k arc here)
     ∙ map_push (tree_text names) (trees_on arcs (take i path)) arc.tree in
     let many : length front ≡ i =
-    length-map (trees_on arcs (take i path)) (tree_text names) ∙ length-trees arcs (take i path) (λ j m. within j (in_front path i j m)) ∙ length-take-le i path (omega (arith, low)) in
+    length-map (trees_on arcs (take i path)) (tree_text names) ∙ length-trees arcs (take i path) (λ j m. within j (in_take path i j m)) ∙ length-take-le i path (omega (arith, low)) in
     new ∙ ap (λ xs. xs ++ next_tree names b arc.tree) old ∙ append_assoc start (joined (codes " ") front) (next_tree names b arc.tree)
     ∙ ap (λ xs. start ++ xs) (sym (ap (joined (codes " ")) more ∙ joined_more (codes " ") front (tree_text names arc.tree) b (e ∙ ap (nat_lt 0) (sym many))))
 
@@ -82,13 +78,7 @@ reading_done names arcs path i start before after past old new =
     new ∙ ap (λ xs. xs ++ codes "\n") (old ∙ ap (λ ks. start ++ joined (codes " ") (map (tree_text names) (trees_on arcs ks))) (take_all i path past))
     ∙ append_assoc start whole (codes "\n")
 
--- the arcs of readings are those of the graph
-leads_within : (arcs : List Arc) (a : ℕ) (ks : List ℕ) (b : ℕ) → Leads arcs a ks b → (k : ℕ) → k ∈ ks → k < length arcs
-leads_within arcs a [] b l k i = absurd i
-leads_within arcs a (j ∷ ks) b (arc, at, e, l) k (inl same) = omega (arith, slice_get_within arcs j arc at, same)
-leads_within arcs a (j ∷ ks) b (arc, at, e, l) k (inr i) = leads_within arcs arc.to ks b l k i
-
 pub readings_within : (G : QGraph) (most : ℕ) (paths : List (List ℕ)) → AreFirst G most paths → (path : List ℕ) → path ∈ paths → (k : ℕ) → k ∈ path → k < length G.arcs
 readings_within G most paths first path i k j =
     let r = first.are_readings path i in
-    leads_within G.arcs r.entry path r.exit r.is_path.leads k j
+    leads_low G.arcs r.entry path r.exit r.is_path.leads k j

@@ -1,6 +1,7 @@
 -- What is told of a cascade, from what is told of its first grammar and of the others.
 use Rattle.std.proofs.Common.{◌≡◌, ℕ, ◌<◌, List, [], ◌∷◌, ◌++◌, length, Option, Some, None, refl, sym, ap, ◌∙◌, subst, inl, inr, ⊎_elim, arith, append_assoc, append-nil}
 use Rattle.std.specs.Prelude.{IfSome}
+use Rattle.qs_explain.proofs.Grounded.{one_support}
 use Rattle.qs_tree.specs.Lists.{◌∈◌}
 use Rattle.qs_pattern.specs.Rules.{Rule, IsAccepted}
 use Rattle.qs_pattern.specs.Named.{ArePatternsNamed}
@@ -181,14 +182,6 @@ module _ (t : Telling) (L : ℕ) (names : List (List ℕ)) where
 
 lt-asym : (m n : ℕ) → m < n → n < m → ⊥
 lt-asym m n a b = omega arith
-
-one_support : (C : Stage) (s t : SupportOf) → IsSupport C s → IsSupport C t → s ≡ t
-one_support C s t a b =
-    let arcs : s.arcs ≡ t.arcs = same_ascending lt-asym s.arcs t.arcs a.arcs_ascend b.arcs_ascend
-    (λ k i. (b.arcs_are k).1 ((a.arcs_are k).0 i)) (λ k i. (a.arcs_are k).1 ((b.arcs_are k).0 i)) in
-    let firings : s.firings ≡ t.firings = same_ascending lt-asym s.firings t.firings a.firings_ascend b.firings_ascend
-    (λ k i. (b.firings_are k).1 ((a.firings_are k).0 i)) (λ k i. (a.firings_are k).1 ((b.firings_are k).0 i)) in
-    λ i. record { arcs = arcs i; firings = firings i }
 
 -- a cascade has one explanation
 pub one_explanation : {L : ℕ} {names : List (List ℕ)} {G : QGraph} {grammars : List Grammar} {t u : List ℕ} {e d : Ending}

@@ -9,10 +9,6 @@ most_limit = 1000000
 abbrev pub most_workers : ℕ
 most_workers = 32
 
--- the greatest size of a made deck
-abbrev pub most_size : ℕ
-most_size = 13
-
 -- the most readings of a line of words
 abbrev pub most_readings : ℕ
 most_readings = 1000

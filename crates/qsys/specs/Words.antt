@@ -15,8 +15,8 @@ use Rattle.clap.specs.declared.builder.value_parser.ValueParser.TheVariants as p
 use Rattle.qsys.specs.declared.job.Command.{Command}
 use Rattle.qsys.specs.declared.job.Command.TheVariants.{Run, Check, Graph, Made, Explain, Levels, Phrase}
 use Rattle.qsys.specs.declared.job.Job.{Job}
-use Rattle.qsys.specs.Limits.{most_limit, most_workers as most_of_workers, most_size as most_of_size}
-use Rattle.qsys.specs.Limits.{most_readings as most_of_readings}
+use Rattle.qs_deck.specs.Limits.{most_size as most_of_size}
+use Rattle.qsys.specs.Limits.{most_limit, most_workers as most_of_workers, most_readings as most_of_readings}
 
 -- A limit is a number from 1 to 1,000,000.
 pub record IsLimit (n : ℕ) : Type 0 where

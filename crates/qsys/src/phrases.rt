@@ -8,7 +8,7 @@ ghost use Rattle.qs_deck.specs.Named.{AreSystemsNamed};
 ghost use Rattle.qsys.specs.Words.{IsLimit};
 ghost use Rattle.qsys.specs.Calls.{TellsWriteFaults};
 ghost use Rattle.qsys.specs.Cascading.{AreAccepted};
-ghost use Rattle.qsys.specs.working.Phrasing.{DeliversPhrases, status_with};
+ghost use Rattle.qsys.specs.working.Phrasing.{AreReady, DeliversPhrases, status_with};
 
 use crate::phrasing::{LineEnd, PhraseTeller};
 use crate::status::Status;
@@ -34,6 +34,7 @@ pub fn phrases<C: Crew, K: Sink>(
     requires crew { C.ready crew.now }
     requires limit { IsLimit teller.now.limit }
     requires readings { 1 ≤ teller.now.readings }
+    requires ready { AreReady teller.now.systems.now teller.now.grammars.now }
     requires named { AreSystemsNamed (length teller.now.names.now) teller.now.systems.now }
     requires accepted { AreAccepted (map grammar_of teller.now.systems.now) }
     requires systems { length teller.now.systems.now ≤ 256 }

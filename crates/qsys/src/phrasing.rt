@@ -11,7 +11,7 @@ ghost use Rattle.qsys.specs.Cascading.{AreAccepted};
 ghost use Rattle.qsys.specs.PhraseTexts.{phrase_line};
 ghost use Rattle.qsys.specs.working.Cascading.{CanGoOn};
 ghost use Rattle.qsys.specs.working.Telling.{IsAppended};
-ghost use Rattle.qsys.specs.working.Phrasing.{IsBlockOf, IsLineEnd, IsLineEndNamed, TellsEnd};
+ghost use Rattle.qsys.specs.working.Phrasing.{AreReady, IsBlockOf, IsLineEnd, IsLineEndNamed, TellsEnd};
 
 use crate::blocks::append_limit;
 use crate::reading_lines::append_readings;
@@ -20,15 +20,16 @@ use qs_deck::System;
 use qs_graph::Graph;
 use qs_phrase::linear;
 use qs_tree::{Label, Names};
-use qs_worker::Crew;
+use qs_worker::{Crew, Grammar};
 use std::alloc::{AllocError, Global};
 
-/// What is the same for all lines of words: the names of the labels, the grammars, the limit on the firings of each,
-/// and how many readings of a line are told at most.
+/// What is the same for all lines of words: the names of the labels, the grammars, as they were read and, in the same
+/// order, ready for runs, the limit on the firings of each, and how many readings of a line are told at most.
 #[derive(Drop)]
 pub struct PhraseTeller<'a> {
     pub names: &'a Names,
     pub systems: &'a [System],
+    pub grammars: &'a [Grammar],
     pub limit: u32,
     pub readings: u32,
 }
@@ -48,6 +49,17 @@ pub struct ToldPhrase {
     pub text: Vec<u8>,
 }
 
+/// The grammars of these systems, in their order, ready for runs.
+pub fn grammars_of(alloc: Global, systems: &[System]) -> Result<Vec<Grammar>, AllocError>
+    ensures { IfOk result (λ grammars. AreReady systems.now grammars.items) }
+{
+    let mut grammars = Vec::with_capacity(alloc, systems.len())?;
+    for system in systems {
+        grammars.push(Grammar::new(alloc, &system.rules)?)?;
+    }
+    Ok(grammars)
+}
+
 impl PhraseTeller<'_> {
     /// Runs the grammars on the line of these words, and tells what they leave in a block with this number. The crew
     /// makes the runs.
@@ -61,6 +73,7 @@ impl PhraseTeller<'_> {
         requires crew { C.ready crew.now }
         requires limit { IsLimit self.now.limit }
         requires readings { 1 ≤ self.now.readings }
+        requires ready { AreReady self.now.systems.now self.now.grammars.now }
         requires named { AreSystemsNamed (length self.now.names.now) self.now.systems.now }
         requires accepted { AreAccepted (map grammar_of self.now.systems.now) }
         requires systems { length self.now.systems.now ≤ 256 }
@@ -81,6 +94,7 @@ impl PhraseTeller<'_> {
     fn run<C: Crew>(&self, alloc: Global, crew: &C, start: Graph) -> Result<LineEnd, AllocError>
         requires crew { C.ready crew.now }
         requires limit { IsLimit self.now.limit }
+        requires ready { AreReady self.now.systems.now self.now.grammars.now }
         requires named { AreSystemsNamed (length self.now.names.now) self.now.systems.now }
         requires accepted { AreAccepted (map grammar_of self.now.systems.now) }
         requires can_go_on { CanGoOn self.now.names.now start (length self.now.systems.now) }
@@ -88,8 +102,8 @@ impl PhraseTeller<'_> {
         ensures named { IfOk result (IsLineEndNamed (length self.now.names.now)) }
     {
         let mut graph = start;
-        for system in self.systems {
-            let end = stage_by(alloc, crew, &system.rules, &graph, self.limit)?;
+        for grammar in self.grammars {
+            let end = stage_by(alloc, crew, grammar, &graph, self.limit)?;
             match end {
                 StageEnd::Left { graph: left, .. } => graph = left,
                 StageEnd::Empty { .. } => return Ok(LineEnd::Empty),

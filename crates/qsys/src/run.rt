@@ -5,7 +5,7 @@ ghost use Rattle.qs_graphtext.specs.Texts.{graph_text};
 ghost use Rattle.qs_io.specs.Limits.{most_text_bytes};
 ghost use Rattle.qs_deck.specs.Decks.{grammar_of, IsDeckOf};
 ghost use Rattle.qs_deck.specs.Texts.{deck_text};
-ghost use Rattle.qs_worker.specs.Crews.{CanBeRun};
+ghost use Rattle.qs_worker.specs.Crews.{CanRunOn};
 ghost use Rattle.qsys.specs.Words.{IsLimit};
 ghost use Rattle.qsys.specs.Defined.{Reads, ReadsDeck, IsForOneWorker};
 ghost use Rattle.qsys.specs.Answers.{EndsAsDefined, IsOfWholeText};
@@ -16,7 +16,7 @@ use crate::cascade::cascade;
 use crate::job::{Command, Job};
 use crate::levels::levels_text;
 use crate::phrases::phrases;
-use crate::phrasing::PhraseTeller;
+use crate::phrasing::{PhraseTeller, grammars_of};
 use crate::refusals::refusal_line;
 use crate::status::Status;
 use crate::summaries::{made_end, status_of, summary};
@@ -25,8 +25,7 @@ use qs_deck::{Deck, DeckEnd, read_deck, read_phrases, write_deck};
 use qs_graph::Graph;
 use qs_graphtext::write_graph;
 use qs_io::{Gate, ReadEnd, Sink, Source, read_all, write_all};
-use qs_pattern::Rule;
-use qs_worker::{ByCall, Crew, OneWorker, saturate};
+use qs_worker::{ByCall, Crew, Grammar, OneWorker, run_together};
 use std::alloc::{AllocError, Global};
 use std::sync::Wait;
 use std::thread::Threads;
@@ -162,9 +161,13 @@ fn answer_phrases<C: Crew, K: Sink>(
         }
         Err(DeckEnd::Memory) => return Status::Memory,
     };
+    let Ok(grammars) = grammars_of(alloc, &read.systems) else {
+        return Status::Memory;
+    };
     let teller = PhraseTeller {
         names: &read.names,
         systems: &read.systems,
+        grammars: &grammars,
         limit: job.limit,
         readings: job.readings,
     };
@@ -346,8 +349,8 @@ pub fn run_with<S: Source, K: Sink, R: Threads + Wait + Sync, G: Gate + Sync>(
     ensures not_usage { result ≢ Status.Usage }
 {
     let workers = job.workers;
-    let run = |alloc: Global, rules: &[Rule], start: &Graph, limit: u32|
-        requires { CanBeRun rules.now start.now limit × (1 ≤ workers) }
-    { saturate(rt, alloc, rules, start, limit, workers, gate) };
+    let run = |alloc: Global, grammar: &Grammar, start: &Graph, limit: u32|
+        requires { CanRunOn start.now limit × (1 ≤ workers) }
+    { run_together(rt, alloc, grammar, start, limit, workers, gate) };
     run_by(alloc, &ByCall { run }, job, source, sink)
 }

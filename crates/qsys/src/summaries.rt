@@ -13,7 +13,7 @@ use crate::blocks::{append_limit, append_number};
 use crate::status::Status;
 use qs_cascade::{StageEnd, stage_by};
 use qs_deck::made;
-use qs_worker::Crew;
+use qs_worker::{Crew, Grammar};
 use std::alloc::{AllocError, Global};
 
 /// What the grammar of the made deck of this size leaves of its graph. The crew makes the run.
@@ -29,7 +29,8 @@ pub fn made_end<C: Crew>(
     ensures { IfOk result (λ end. IsStageEnd ((made_grammar size).rules) (made_graph size) limit end) }
 {
     let deck = made(alloc, size)?;
-    stage_by(alloc, crew, &deck.systems[0].rules, &deck.graph, limit)
+    let grammar = Grammar::new(alloc, &deck.systems[0].rules)?;
+    stage_by(alloc, crew, &grammar, &deck.graph, limit)
 }
 
 /// The status of a run whose last grammar ends so.

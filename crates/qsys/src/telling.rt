@@ -1,13 +1,9 @@
 //! Running one grammar, and telling what it left.
 
-ghost use Rattle.std.specs.Prelude.{◌≡◌, ◌<◌, ◌≤◌, ◌+◌, ◌*◌, ◌^◌, ◌-◌, IfOk, IfSome, OnOk, length};
-ghost use Rattle.qs_pattern.specs.Limits.{most_patterns};
+ghost use Rattle.std.specs.Prelude.{◌<◌, ◌^◌, IfOk, IfSome, OnOk, length};
 ghost use Rattle.qs_graphtext.specs.Texts.{AreArcsNamed};
 ghost use Rattle.qs_clean.specs.Cleaning.{IsClosureOfValid};
-ghost use Rattle.qs_cascade.specs.Stages.{GrowsWithin, IsStageEnd, MakesNoLabels};
-ghost use Rattle.qs_deck.specs.Named.{IsSystemNamed};
-ghost use Rattle.qsys.specs.Words.{IsLimit};
-ghost use Rattle.qsys.specs.working.Telling.{IsAppended, IsSupportIn, IsTold};
+ghost use Rattle.qsys.specs.working.Telling.{CanBeTold, IsAppended, IsSupportIn, TellsStage};
 
 use crate::blocks::block;
 use qs_canon::Closure;
@@ -15,8 +11,8 @@ use qs_cascade::{StageEnd, closure_by, end_behind, stage_by};
 use qs_deck::System;
 use qs_explain::{explain, write_support};
 use qs_graph::Graph;
-use qs_tree::Names;
-use qs_worker::Crew;
+use qs_tree::{Label, Names};
+use qs_worker::{Crew, Grammar};
 use std::alloc::{AllocError, Global};
 
 /// What is told of each grammar.
@@ -54,20 +50,15 @@ impl Teller<'_> {
         graph: &Graph,
     ) -> Result<Told, AllocError>
         requires crew { C.ready crew.now }
-        requires limit { IsLimit self.now.limit }
-        requires arcs { length graph.now.arcs + most_patterns * self.now.limit ≤ 2 ^ 32 - 1 }
-        requires nodes { graph.now.nodes + most_patterns * self.now.limit ≤ 2 ^ 32 - 1 }
-        requires named { IsSystemNamed (length self.now.names.now) system.now }
-        requires arcs_named { AreArcsNamed (length self.now.names.now) graph.now.arcs }
-        ensures end { IfOk result (λ told. IsStageEnd system.now.rules.items graph.now self.now.limit told.end) }
-        ensures grows { IfOk result (λ told. GrowsWithin graph.now self.now.limit told.end) }
-        ensures labels { IfOk result (λ told. MakesNoLabels system.now.rules.items graph.now told.end) }
-        ensures told { IfOk result (λ told. IsTold self.now.telling self.now.limit self.now.names.now system.now.name
+        requires can_tell { CanBeTold self.now.limit self.now.names.now system.now.name system.now.rules.items
+            graph.now }
+        ensures { IfOk result (λ told. TellsStage self.now.telling self.now.limit self.now.names.now system.now.name
             system.now.rules.items graph.now told.end told.text.items) }
     {
+        let grammar = Grammar::new(alloc, &system.rules)?;
         match self.telling {
-            Telling::Blocks => self.tell_block(alloc, crew, system, graph),
-            Telling::Supports => self.tell_support(alloc, crew, system, graph),
+            Telling::Blocks => self.tell_block(alloc, crew, system.name, &grammar, graph),
+            Telling::Supports => self.tell_support(alloc, crew, system.name, &grammar, graph),
         }
     }
 
@@ -76,23 +67,17 @@ impl Teller<'_> {
         &self,
         alloc: Global,
         crew: &C,
-        system: &System,
+        name: Label,
+        grammar: &Grammar,
         graph: &Graph,
     ) -> Result<Told, AllocError>
         requires crew { C.ready crew.now }
-        requires limit { IsLimit self.now.limit }
-        requires arcs { length graph.now.arcs + most_patterns * self.now.limit ≤ 2 ^ 32 - 1 }
-        requires nodes { graph.now.nodes + most_patterns * self.now.limit ≤ 2 ^ 32 - 1 }
-        requires named { IsSystemNamed (length self.now.names.now) system.now }
-        requires arcs_named { AreArcsNamed (length self.now.names.now) graph.now.arcs }
-        ensures end { IfOk result (λ told. IsStageEnd system.now.rules.items graph.now self.now.limit told.end) }
-        ensures grows { IfOk result (λ told. GrowsWithin graph.now self.now.limit told.end) }
-        ensures labels { IfOk result (λ told. MakesNoLabels system.now.rules.items graph.now told.end) }
-        ensures told { IfOk result (λ told. IsTold Telling.Blocks self.now.limit self.now.names.now system.now.name
-            system.now.rules.items graph.now told.end told.text.items) }
+        requires can_tell { CanBeTold self.now.limit self.now.names.now name grammar.now graph.now }
+        ensures { IfOk result (λ told. TellsStage Telling.Blocks self.now.limit self.now.names.now name grammar.now
+            graph.now told.end told.text.items) }
     {
-        let end = stage_by(alloc, crew, &system.rules, graph, self.limit)?;
-        let text = block(alloc, self.names, system.name, self.limit, &end)?;
+        let end = stage_by(alloc, crew, grammar, graph, self.limit)?;
+        let text = block(alloc, self.names, name, self.limit, &end)?;
         Ok(Told { end, text })
     }
 
@@ -101,24 +86,18 @@ impl Teller<'_> {
         &self,
         alloc: Global,
         crew: &C,
-        system: &System,
+        name: Label,
+        grammar: &Grammar,
         graph: &Graph,
     ) -> Result<Told, AllocError>
         requires crew { C.ready crew.now }
-        requires limit { IsLimit self.now.limit }
-        requires arcs { length graph.now.arcs + most_patterns * self.now.limit ≤ 2 ^ 32 - 1 }
-        requires nodes { graph.now.nodes + most_patterns * self.now.limit ≤ 2 ^ 32 - 1 }
-        requires named { IsSystemNamed (length self.now.names.now) system.now }
-        requires arcs_named { AreArcsNamed (length self.now.names.now) graph.now.arcs }
-        ensures end { IfOk result (λ told. IsStageEnd system.now.rules.items graph.now self.now.limit told.end) }
-        ensures grows { IfOk result (λ told. GrowsWithin graph.now self.now.limit told.end) }
-        ensures labels { IfOk result (λ told. MakesNoLabels system.now.rules.items graph.now told.end) }
-        ensures told { IfOk result (λ told. IsTold Telling.Supports self.now.limit self.now.names.now system.now.name
-            system.now.rules.items graph.now told.end told.text.items) }
+        requires can_tell { CanBeTold self.now.limit self.now.names.now name grammar.now graph.now }
+        ensures { IfOk result (λ told. TellsStage Telling.Supports self.now.limit self.now.names.now name grammar.now
+            graph.now told.end told.text.items) }
     {
-        let closure = closure_by(alloc, crew, &system.rules, graph, self.limit)?;
+        let closure = closure_by(alloc, crew, grammar, graph, self.limit)?;
         let end = end_behind(alloc, &closure)?;
-        let mut text = block(alloc, self.names, system.name, self.limit, &end)?;
+        let mut text = block(alloc, self.names, name, self.limit, &end)?;
         append_support(alloc, self.names, &closure, &end, &mut text)?;
         Ok(Told { end, text })
     }

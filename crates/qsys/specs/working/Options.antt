@@ -2,7 +2,8 @@
 use Rattle.std.specs.Prelude.{◌≡◌, ℕ, ◌<◌, ◌^◌, pos, List, Some, codes}
 use Rattle.clap.specs.Words.{one_text, without_minus, IsSignedIn}
 use Rattle.clap.specs.declared.parser.matches.Found.{Found}
-use Rattle.qsys.specs.Limits.{most_limit, most_workers, most_size, most_readings}
+use Rattle.qs_deck.specs.Limits.{most_size}
+use Rattle.qsys.specs.Limits.{most_limit, most_workers, most_readings}
 
 -- The option of this name has a text, and it is a number between these two.
 pub record HasNumber (found : Found) (name : List ℕ) (least most : ℕ) : Type 0 where

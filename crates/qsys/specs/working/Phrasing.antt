@@ -1,12 +1,14 @@
 -- How a line of words ends behind its grammars, as the code has it and as the definitions have it.
-use Rattle.std.specs.Prelude.{◌≡◌, ℕ, ◌+◌, Bool, if◌then◌else◌, List, [], ◌++◌, drop, Option, Some, None, codes}
+use Rattle.std.specs.Prelude.{◌≡◌, ℕ, ◌+◌, Bool, if◌then◌else◌, List, [], ◌++◌, drop, map, Option, Some, None, codes}
 use Rattle.qs_tree.specs.Trees.{Tree}
 use Rattle.qs_tree.specs.Text.{tree_text}
 use Rattle.qs_tree.specs.declared.cell.Label.{Label}
+use Rattle.qs_pattern.specs.Rules.{Rule}
 use Rattle.qs_graph.specs.Graphs.{QGraph}
 use Rattle.qs_graphtext.specs.Texts.{AreArcsNamed}
 use Rattle.qs_clean.specs.Cascades.{Ending, all_done, by_limit}
 use Rattle.qs_phrase.specs.Words.{graph_of_words}
+use Rattle.qs_deck.specs.declared.system.System.{System}
 use Rattle.qs_deck.specs.Decks.{Grammar}
 use Rattle.qsys.specs.declared.phrasing.LineEnd.{LineEnd}
 use Rattle.qsys.specs.declared.phrasing.LineEnd.TheVariants as end
@@ -15,6 +17,10 @@ use Rattle.qsys.specs.declared.status.Status.TheVariants.{Limit}
 use Rattle.qsys.specs.PhraseTexts.{EndsWith, TellsLast, TellsPhrase, TellsPhrases, either_by_limit}
 use Rattle.qsys.specs.PhraseTexts.{BeginsPhrases, phrase_line}
 use Rattle.qsys.specs.working.Cascading.{DeliversBlocks}
+
+-- These are the rules of the systems, in their order.
+abbrev pub AreReady : List System → List (List Rule) → Type 0
+AreReady systems ready = ready ≡ map (λ (system : System). system.rules.items) systems
 
 -- The graph that is left, where one is.
 abbrev pub graph_in : LineEnd → Option QGraph

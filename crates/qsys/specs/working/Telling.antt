@@ -1,11 +1,15 @@
 -- What is told of a cascade, and of one of its grammars.
-use Rattle.std.specs.Prelude.{◌≡◌, ℕ, List, [], ◌++◌, Option, None, Some}
+use Rattle.std.specs.Prelude.{◌≡◌, ◌<◌, ℕ, List, [], ◌++◌, length, Option, None, Some}
 use Rattle.qs_tree.specs.declared.cell.Label.{Label}
+use Rattle.qs_tree.specs.Lists.{◌∈◌}
 use Rattle.qs_pattern.specs.Rules.{Rule}
+use Rattle.qs_pattern.specs.Named.{ArePatternsNamed}
 use Rattle.qs_graph.specs.Graphs.{QGraph}
+use Rattle.qs_graphtext.specs.Texts.{AreArcsNamed}
 use Rattle.qs_canon.specs.Closures.{ClosureOf}
 use Rattle.qs_clean.specs.Cascades.{Ending}
-use Rattle.qs_cascade.specs.Stages.{LeavesGraph}
+use Rattle.qs_worker.specs.Crews.{CanRunOn}
+use Rattle.qs_cascade.specs.Stages.{LeavesGraph, IsAnswerOfStage}
 use Rattle.qs_cascade.specs.declared.stages.StageEnd.{StageEnd}
 use Rattle.qs_cascade.specs.declared.stages.StageEnd.TheVariants as end
 use Rattle.qs_explain.specs.Support.{SupportOf, IsSupport}
@@ -13,6 +17,7 @@ use Rattle.qs_explain.specs.Texts.{support_text}
 use Rattle.qs_deck.specs.Decks.{Grammar}
 use Rattle.qsys.specs.declared.telling.Telling.{Telling}
 use Rattle.qsys.specs.declared.telling.Telling.TheVariants as telling
+use Rattle.qsys.specs.Words.{IsLimit}
 use Rattle.qsys.specs.Outcomes.{block, BeginsOutcome, IsOutcome}
 use Rattle.qsys.specs.Explanations.{BeginsExplanation, Explains}
 use Rattle.qsys.specs.working.Ends.{left_of}
@@ -58,3 +63,18 @@ abbrev pub IsTold : Telling → ℕ → List (List ℕ) → Label → List Rule 
 IsTold telling.Blocks L names name R G e text = text ≡ block L names name (left_of e)
 IsTold telling.Supports L names name R G e text =
     IsAppended (IsBehind L names R G e) (block L names name (left_of e)) text
+
+-- A grammar with this name and these rules can be run on G with L firings and be told: these are a limit that a job may
+-- have and names for the labels of the grammar and of G, and G has room for what the firings add.
+pub record CanBeTold (L : ℕ) (names : List (List ℕ)) (name : Label) (R : List Rule) (G : QGraph) : Type 0 where
+  pub limit : IsLimit L
+  pub can_run : CanRunOn G L
+  pub named : name.0 < length names
+  pub rules_named : (rule : Rule) → rule ∈ R → ArePatternsNamed (length names) rule.right
+  pub arcs_named : AreArcsNamed (length names) G.arcs
+
+-- So a grammar with this name and these rules ends on G, and this is the text that tells it.
+pub record TellsStage (telling : Telling) (L : ℕ) (names : List (List ℕ)) (name : Label) (R : List Rule) (G : QGraph)
+    (e : StageEnd) (text : List ℕ) : Type 0 where
+  pub stage : IsAnswerOfStage R G L e
+  pub told : IsTold telling L names name R G e text

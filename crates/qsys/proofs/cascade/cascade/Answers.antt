@@ -12,23 +12,21 @@ loop-system-init g c = (
   refl,
 )
 
-pub tell-requires-clause-arcs : goal.tell-requires-clause-arcs
-tell-requires-clause-arcs g c =
-    turn_arcs c.args.teller.now.telling c.args.teller.now.limit c.args.teller.now.names.now c.args.systems.now c.args.start _ _ c.loop-system.graph c.loop-system.system-index c.system-item.result
-    c.system-item.is c.loop-system-test.true c.requires.accepted c.loop-system.invariant.0 c.loop-system.invariant.1 c.requires.limit.high
-
-pub tell-requires-clause-nodes : goal.tell-requires-clause-nodes
-tell-requires-clause-nodes g c =
-    turn_nodes c.args.teller.now.telling c.args.teller.now.limit c.args.teller.now.names.now c.args.systems.now c.args.start _ _ c.loop-system.graph c.loop-system.system-index c.system-item.result
-    c.system-item.is c.loop-system-test.true c.requires.accepted c.loop-system.invariant.0 c.loop-system.invariant.1 c.requires.limit.high
-
-pub tell-requires-clause-named : goal.tell-requires-clause-named
-tell-requires-clause-named g c =
-    turn_named c.args.teller.now.telling c.args.teller.now.limit c.args.teller.now.names.now c.args.systems.now c.args.start _ _ c.loop-system.graph c.loop-system.system-index c.system-item.result
-    c.system-item.is c.loop-system-test.true c.requires.accepted c.loop-system.invariant.0 c.loop-system.invariant.1 c.requires.named
-
-pub tell-requires-clause-arcs_named : goal.tell-requires-clause-arcs_named
-tell-requires-clause-arcs_named g c = c.loop-system.invariant.1.named
+pub tell-requires-clause-can_tell : goal.tell-requires-clause-can_tell
+tell-requires-clause-can_tell g c =
+    let named = turn_named c.args.teller.now.telling c.args.teller.now.limit c.args.teller.now.names.now c.args.systems.now c.args.start _ _ c.loop-system.graph c.loop-system.system-index c.system-item.result
+    c.system-item.is c.loop-system-test.true c.requires.accepted c.loop-system.invariant.0 c.loop-system.invariant.1 c.requires.named in
+    let arcs = turn_arcs c.args.teller.now.telling c.args.teller.now.limit c.args.teller.now.names.now c.args.systems.now c.args.start _ _ c.loop-system.graph c.loop-system.system-index c.system-item.result
+    c.system-item.is c.loop-system-test.true c.requires.accepted c.loop-system.invariant.0 c.loop-system.invariant.1 c.requires.limit.high in
+    let nodes = turn_nodes c.args.teller.now.telling c.args.teller.now.limit c.args.teller.now.names.now c.args.systems.now c.args.start _ _ c.loop-system.graph c.loop-system.system-index c.system-item.result
+    c.system-item.is c.loop-system-test.true c.requires.accepted c.loop-system.invariant.0 c.loop-system.invariant.1 c.requires.limit.high in
+    record {
+      limit = c.requires.limit;
+      can_run = record { some = c.requires.limit.low; arcs = omega (arith, arcs); nodes = omega (arith, nodes) };
+      named = named.name;
+      rules_named = λ rule i. (named.rules rule i).right;
+      arcs_named = c.loop-system.invariant.1.named;
+    }
 
 pub returns-in_default-clause-delivers : goal.returns-in_default-clause-delivers
 returns-in_default-clause-delivers g c =
@@ -39,32 +37,32 @@ pub returns-in_default-write_all-clause-delivers : goal.returns-in_default-write
 returns-in_default-write_all-clause-delivers g c =
     turn_failed c.args.teller.now.telling c.args.teller.now.limit c.args.teller.now.names.now c.args.systems.now c.args.start _ _ c.loop-system.graph c.loop-system.system-index c.system-item.result
     c.system-item.is c.loop-system-test.true c.requires.accepted c.loop-system.invariant.0 c.loop-system.invariant.1
-    c.in-Ok.told.end c.in-Ok.ensures.end c.in-Ok.told.text.items c.in-Ok.ensures.told _ c.deref.result.now c.deref.ensures.value c.in_default-write_all.ensures.prefix
+    c.in-Ok.told.end c.in-Ok.ensures.stage.end c.in-Ok.told.text.items c.in-Ok.ensures.told _ c.deref.result.now c.deref.ensures.value c.in_default-write_all.ensures.prefix
 
 pub returns-in-Empty-clause-delivers : goal.returns-in-Empty-clause-delivers
 returns-in-Empty-clause-delivers g c =
     turn_empty c.args.teller.now.telling c.args.teller.now.limit c.args.teller.now.names.now c.args.systems.now c.args.start _ _ c.loop-system.graph c.loop-system.system-index c.system-item.result
     c.system-item.is c.loop-system-test.true c.requires.accepted c.loop-system.invariant.0 c.loop-system.invariant.1
-    c.in-Ok.told.end c.in-Ok.ensures.end c.in-Ok.told.text.items c.in-Ok.ensures.told _ c.deref.result.now c.deref.ensures.value c.in-Ok-write_all.ensures.bytes
+    c.in-Ok.told.end c.in-Ok.ensures.stage.end c.in-Ok.told.text.items c.in-Ok.ensures.told _ c.deref.result.now c.deref.ensures.value c.in-Ok-write_all.ensures.bytes
     c.in-Empty.firings c.in-Empty.is
 
 pub returns-in-Over-clause-delivers : goal.returns-in-Over-clause-delivers
 returns-in-Over-clause-delivers g c =
     turn_over c.args.teller.now.telling c.args.teller.now.limit c.args.teller.now.names.now c.args.systems.now c.args.start _ _ c.loop-system.graph c.loop-system.system-index c.system-item.result
     c.system-item.is c.loop-system-test.true c.requires.accepted c.loop-system.invariant.0 c.loop-system.invariant.1
-    c.in-Ok.told.end c.in-Ok.ensures.end c.in-Ok.told.text.items c.in-Ok.ensures.told _ c.deref.result.now c.deref.ensures.value c.in-Ok-write_all.ensures.bytes
+    c.in-Ok.told.end c.in-Ok.ensures.stage.end c.in-Ok.told.text.items c.in-Ok.ensures.told _ c.deref.result.now c.deref.ensures.value c.in-Ok-write_all.ensures.bytes
     c.in-Over.is
 
 pub loop-system-preserved : goal.loop-system-preserved
 loop-system-preserved g c = (
   turn_further c.args.teller.now.telling c.args.teller.now.limit c.args.teller.now.names.now c.args.systems.now c.args.start _ _ c.loop-system.graph c.loop-system.system-index c.system-item.result
       c.system-item.is c.loop-system-test.true c.requires.accepted c.loop-system.invariant.0 c.loop-system.invariant.1
-      c.in-Ok.told.end c.in-Ok.ensures.end c.in-Ok.told.text.items c.in-Ok.ensures.told _ c.deref.result.now c.deref.ensures.value c.in-Ok-write_all.ensures.bytes
+      c.in-Ok.told.end c.in-Ok.ensures.stage.end c.in-Ok.told.text.items c.in-Ok.ensures.told _ c.deref.result.now c.deref.ensures.value c.in-Ok-write_all.ensures.bytes
       c.in-Left.left c.in-Left.firings c.in-Left.is,
   turn_can_go_on c.args.teller.now.telling c.args.teller.now.limit c.args.teller.now.names.now c.args.systems.now c.args.start _ _ c.loop-system.graph c.loop-system.system-index c.system-item.result
       c.system-item.is c.loop-system-test.true c.requires.accepted c.loop-system.invariant.0 c.loop-system.invariant.1
-      c.in-Ok.told.end c.in-Ok.ensures.end c.in-Ok.told.text.items c.in-Ok.ensures.told c.in-Left.left c.in-Left.firings c.in-Left.is
-      c.requires.limit.high c.requires.named c.in-Ok.ensures.grows c.in-Ok.ensures.labels,
+      c.in-Ok.told.end c.in-Ok.ensures.stage.end c.in-Ok.told.text.items c.in-Ok.ensures.told c.in-Left.left c.in-Left.firings c.in-Left.is
+      c.requires.limit.high c.requires.named c.in-Ok.ensures.stage.grows c.in-Ok.ensures.stage.labels,
   omega (arith, c.loop-system.invariant.2, c.in-Ok-write_all.ensures.no_fault),
 )
 

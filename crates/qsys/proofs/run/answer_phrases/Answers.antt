@@ -22,15 +22,15 @@ returns-in-Err-Refused-clause-answered g c =
     (refused_phrases_defined c.args.job.now c.args.bytes.now c.in-Err-Refused.refusal c.requires.command refused) c.refusal_line.result c.refusal_line.ensures c.write_text.ensures.written
 
 pub phrases-requires-clause-named : goal.phrases-requires-clause-named
-phrases-requires-clause-named g c = subst (AreSystemsNamed _) (sym c.deref.ensures.value) c.in-Ok.read.systems_named
+phrases-requires-clause-named g c = subst (AreSystemsNamed _) (sym c.deref-2.ensures.value) c.in-Ok.read.systems_named
 
 pub phrases-requires-clause-accepted : goal.phrases-requires-clause-accepted
 phrases-requires-clause-accepted g c =
-    subst (λ (systems : List System). AreAccepted (map grammar_of systems)) (sym c.deref.ensures.value) (phrases_accepted c.in-Ok.ensures.phrases)
+    subst (λ (systems : List System). AreAccepted (map grammar_of systems)) (sym c.deref-2.ensures.value) (phrases_accepted c.in-Ok.ensures.phrases)
 
 pub phrases-requires-clause-systems : goal.phrases-requires-clause-systems
 phrases-requires-clause-systems g c =
-    omega (arith, grammars_few c.in-Ok.ensures.phrases, length-map c.in-Ok.read.systems.items grammar_of, ap (λ (systems : List System). length systems) c.deref.ensures.value)
+    omega (arith, grammars_few c.in-Ok.ensures.phrases, length-map c.in-Ok.read.systems.items grammar_of, ap (λ (systems : List System). length systems) c.deref-2.ensures.value)
 
 pub phrases-requires-clause-some : goal.phrases-requires-clause-some
 phrases-requires-clause-some g c = lines_some c.in-Ok.ensures.phrases
@@ -40,4 +40,4 @@ returns-clause-answered g c =
     phrases_defined c.args.job.now c.args.bytes.now c.in-Ok.read.version c.in-Ok.read.names (map grammar_of c.in-Ok.read.systems.items) c.in-Ok.read.lines c.requires.command c.in-Ok.ensures.phrases
     (g.K.Sink.written c.args.sink.now) (g.K.Sink.written c.phrases.new.sink) c.phrases.result
     (subst (λ (systems : List System). DeliversPhrases c.args.job.now.limit c.args.job.now.readings c.in-Ok.read.names (map grammar_of systems) c.in-Ok.read.lines (g.K.Sink.written c.args.sink.now) (g.K.Sink.written c.phrases.new.sink) c.phrases.result)
-    c.deref.ensures.value c.phrases.ensures.delivers)
+    c.deref-2.ensures.value c.phrases.ensures.delivers)

@@ -1,7 +1,7 @@
 use Rattle.std.proofs.Common.{◌≡◌, ◌∙◌, None, arith, codes, sym}
 use Rattle.clap.specs.Matches.{first_value, found_of}
-use Rattle.qsys.specs.Limits.{most_limit, most_workers as most_of_workers, most_size as most_of_size}
-use Rattle.qsys.specs.Limits.{most_readings as most_of_readings}
+use Rattle.qs_deck.specs.Limits.{most_size as most_of_size}
+use Rattle.qsys.specs.Limits.{most_limit, most_workers as most_of_workers, most_readings as most_of_readings}
 use Rattle.qsys.proofs.ReadWords.{job_by_word, job_read, no_job_read}
 use Rattle.qsys.proofs.words.job_in.Goals as goal
 
