@@ -18,6 +18,7 @@ decks are run. The kinds of decks to close, with n for a number:
     left     S + W == S on S and n labels W: n rounds with one firing each
     words    n rules that rewrite a word each, on a chain of n words
     lexicon  the same n rules on a chain of 25 words
+    below    n rules N(WORDi) == P(WORDi) on a chain of n trees that differ below their roots alone
     star     I* + I* == C on a node with n arcs into it and n out of it, of which no two are equal
     cascade  16 grammars behind each other, each of which rewrites each of n small trees: 16 n firings
     phrases  the same on n trees with twelve trees below their roots
@@ -167,6 +168,11 @@ def words(n):
     return lexicon(n, n)
 
 
+def below(n):
+    rules = ["N(WORD%d) == P(WORD%d)." % (i, i) for i in range(n)]
+    return chain(rules, ["N(WORD%d)" % (i * 7919 % n) for i in range(n)]), n, n
+
+
 def star(n):
     return deck(["I* + I* == C."], ["-1- A%d -2-.\n-2- B%d -3-." % (i, i) for i in range(n)]), 0, 2 * n
 
@@ -184,7 +190,7 @@ CLOSED = (
     (made, (10, 11, 12, 13)), (amb, (9, 10, 11)), (eq, (9, 10, 11)), (apart, (9, 10, 11)),
     (merged, (20, 40, 80)), (million, (15625, 31250, 62500)), (split, (500, 1000, 2000)), (two, (12500, 25000, 50000)),
     (left, (1000, 2000, 4000, 8000)), (words, (1250, 2500, 5000, 10000)), (lexicon, (12500, 25000, 50000)),
-    (star, (500, 1000, 2000)), (cascade, (15625, 31250, 62500)),
+    (below, (1250, 2500, 5000, 10000)), (star, (500, 1000, 2000)), (cascade, (15625, 31250, 62500)),
     (phrases, (5000, 10000, 20000)))
 
 
