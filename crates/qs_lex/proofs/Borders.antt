@@ -6,8 +6,9 @@ use Rattle.std.proofs.lemmas.List.{get_or-drop, get_or-take, get_or_at}
 use Rattle.std.proofs.lemmas.Bool.{eqb-true, ltb-true, or_parts, cases_lt}
 use Rattle.std.proofs.lemmas.Bool.Decides.{nat_tests}
 use Rattle.std.proofs.lemmas.Str.{IsCharBoundary-end, IsCharBoundary-before_ascii, IsCharBoundary-after_ascii}
-use Rattle.qs_lex.specs.Characters.{is_label, is_space, is_variable_letter, Each, BeginsWithNo}
-use Rattle.qs_lex.specs.Spelling.{Spells, EndsBefore, doubled, name_of, suffix_of}
+use Rattle.qs_tree.specs.Text.{is_label_byte, doubled}
+use Rattle.qs_lex.specs.Characters.{is_space, is_variable_letter, Each, BeginsWithNo}
+use Rattle.qs_lex.specs.Spelling.{Spells, EndsBefore, name_of, suffix_of}
 use Rattle.qs_lex.specs.Tokens.{blank_len, comment_len, next_place, StandsIn}
 use Rattle.qs_lex.specs.declared.token.Token.{Token}
 use Rattle.qs_lex.specs.declared.token.Kind.{Kind}
@@ -128,14 +129,14 @@ last_ascii Equals bytes other s = quote_last (61 ∷ []) bytes 61 (omega arith) 
 last_ascii Stop bytes other s = quote_last [] bytes 46 (omega arith) s
 
 -- behind a bare label stands no byte of a label character, so none of 128 and more
-no_label_ascii : (b : ℕ) → is_label b ≡ false → b < 128
+no_label_ascii : (b : ℕ) → is_label_byte b ≡ false → b < 128
 no_label_ascii b e = grind (arith, nat_tests)
 
-behind_bare : (rest : List ℕ) → BeginsWithNo (λ b. is_label b || eqb b 42) rest → get_or rest 0 0 < 128
+behind_bare : (rest : List ℕ) → BeginsWithNo (λ b. is_label_byte b || eqb b 42) rest → get_or rest 0 0 < 128
 behind_bare [] ends = omega arith
-behind_bare (b ∷ bs) ends = no_label_ascii b (or_parts (is_label b) (eqb b 42) ends).0
+behind_bare (b ∷ bs) ends = no_label_ascii b (or_parts (is_label_byte b) (eqb b 42) ends).0
 
-bare_border : (text : List ℕ) (to : ℕ) → to ≤ length text → BeginsWithNo (λ b. is_label b || eqb b 42) (drop to text) → IsCharBoundary text to
+bare_border : (text : List ℕ) (to : ℕ) → to ≤ length text → BeginsWithNo (λ b. is_label_byte b || eqb b 42) (drop to text) → IsCharBoundary text to
 bare_border text to within ends =
     let byte : get_or (drop to text) 0 0 ≡ get_or text to 0 = get_or-drop to text 0 0 ∙ ap (λ i. get_or text i 0) (omega arith) in
     let low = behind_bare (drop to text) ends in

@@ -4,7 +4,8 @@ use Rattle.std.specs.Prelude.{take_while, slice_index}
 use Rattle.std.specs.List.{prefix_len}
 use Rattle.std.specs.Char.{is_ascii_digit}
 use Rattle.qs_lex.specs.Limits.{most_node_number}
-use Rattle.qs_lex.specs.Characters.{is_label, is_variable_letter}
+use Rattle.qs_tree.specs.Text.{is_label_byte}
+use Rattle.qs_lex.specs.Characters.{is_variable_letter}
 use Rattle.qs_lex.specs.working.Characters.{is_capital_or_digit}
 use Rattle.qs_lex.specs.Refusals.{cause_at}
 use Rattle.qs_lex.specs.working.Scan.{Found, scan, label_at, variable_of, with_digits, numbered, number_after, quote_len, quoted_of, mark_at, named, node_of, word_of, punctuation}
@@ -56,7 +57,7 @@ blames_punctuation b =
 
 blames_label : (bytes : List ℕ) → Blames BadVariable (label_at bytes)
 blames_label bytes =
-    let n = prefix_len is_label bytes in
+    let n = prefix_len is_label_byte bytes in
     blames_either BadVariable (eqb (get_or bytes n 0) 42) (variable_of (take n bytes) (drop (n + 1) bytes)) (Ok (Bare, n)) (blames_variable (take n bytes) (drop (n + 1) bytes)) tt
 
 blames_mark : (v : ℕ) (bytes : List ℕ) → Blames BadWord (mark_at v bytes)
@@ -75,7 +76,7 @@ scan_blames v b bs =
     let last : Found = cond (eqb b 61) equals (punctuation b) in
     let blames_last : Blames BadCharacter last =
     blames_either BadCharacter (eqb b 61) equals (punctuation b) (blames_either BadCharacter (eqb (get_or bs 0 0) 61) (Ok (Equals, 2)) (Err BadCharacter) tt refl) (blames_punctuation b) in
-    both (is_label b) BadVariable (cond (eqb b 34) OpenQuote (cond (eqb b 45) BadWord BadCharacter)) (label_at (b ∷ bs)) (cond (eqb b 34) (quoted_of (quote_len bs)) (cond (eqb b 45) (mark_at v bs) last)) (blames_label (b ∷ bs))
+    both (is_label_byte b) BadVariable (cond (eqb b 34) OpenQuote (cond (eqb b 45) BadWord BadCharacter)) (label_at (b ∷ bs)) (cond (eqb b 34) (quoted_of (quote_len bs)) (cond (eqb b 45) (mark_at v bs) last)) (blames_label (b ∷ bs))
     (both (eqb b 34) OpenQuote (cond (eqb b 45) BadWord BadCharacter) (quoted_of (quote_len bs)) (cond (eqb b 45) (mark_at v bs) last) (blames_quoted (quote_len bs))
     (both (eqb b 45) BadWord BadCharacter (mark_at v bs) last (blames_mark v bs) blames_last))
 

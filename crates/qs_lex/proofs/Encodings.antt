@@ -5,7 +5,8 @@ use Rattle.std.proofs.lemmas.List.{append-nil}
 use Rattle.std.proofs.lemmas.Bool.{cases_lt}
 use Rattle.std.proofs.lemmas.Bool.Decides.{nat_tests}
 use Rattle.std.proofs.lemmas.Str.{encode_ascii, inside_one}
-use Rattle.qs_lex.specs.Characters.{is_label, is_space, is_sign}
+use Rattle.qs_tree.specs.Text.{is_label_byte}
+use Rattle.qs_lex.specs.Characters.{is_space, is_sign}
 
 -- each byte of a character from U+0080 on is at least 128
 pub high_byte : (c k : ℕ) → 128 ≤ c → k < length (encode_utf8 c) → 128 ≤ get_or (encode_utf8 c) k 0
@@ -27,7 +28,7 @@ class_byte p all high_in c k within =
     (λ high. high_in (get_or (encode_utf8 c) k 0) (high_byte c k high within) ∙ sym (high_in c high))
     (cases_lt c 128)
 
-high_label : (b : ℕ) → 128 ≤ b → is_label b ≡ true
+high_label : (b : ℕ) → 128 ≤ b → is_label_byte b ≡ true
 high_label b high = grind (arith, nat_tests)
 
 high_space : (b : ℕ) → 128 ≤ b → is_space b ≡ false
@@ -36,8 +37,8 @@ high_space b high = grind (arith, nat_tests)
 high_sign : (b : ℕ) → 128 ≤ b → is_sign b ≡ false
 high_sign b high = grind (arith, nat_tests)
 
-pub label_byte : (c k : ℕ) → k < length (encode_utf8 c) → is_label (get_or (encode_utf8 c) k 0) ≡ is_label c
-label_byte = class_byte is_label true high_label
+pub label_byte : (c k : ℕ) → k < length (encode_utf8 c) → is_label_byte (get_or (encode_utf8 c) k 0) ≡ is_label_byte c
+label_byte = class_byte is_label_byte true high_label
 
 pub space_byte : (c k : ℕ) → k < length (encode_utf8 c) → is_space (get_or (encode_utf8 c) k 0) ≡ is_space c
 space_byte = class_byte is_space false high_space

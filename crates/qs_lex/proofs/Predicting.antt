@@ -1,5 +1,5 @@
 -- Whether a grammar is read with one token of sight, decided sort by sort.
-use Rattle.std.proofs.Common.{◌≡◌, Bool, true, false, ◌||◌, ◌&&◌, not, refl, sym}
+use Rattle.std.proofs.Common.{◌≡◌, Bool, true, false, ◌||◌, ◌&&◌, not, refl}
 use Rattle.std.proofs.lemmas.Bool.{false≢true, not-true}
 use Rattle.qs_lex.specs.Grammar.{Sort, Form, one, part, ◌·◌, ◌∣◌, optional, repeated, Grammar}
 use Rattle.qs_lex.specs.working.Expecting.{nullable, first, goes_on, Apart, IsPredictive}

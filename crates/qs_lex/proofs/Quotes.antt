@@ -2,9 +2,10 @@
 use Rattle.std.proofs.Common.{◌≡◌, ℕ, suc, ◌+◌, Bool, true, false, not, cond, List, [], ◌∷◌, ◌++◌, length, drop, Option, Some, None, refl, sym, ap, ◌∙◌, ⊎_elim, subst, arith, eqb}
 use Rattle.std.specs.Prelude.{option_map}
 use Rattle.std.proofs.lemmas.Bool.{cond-false, eqb-true, eqb-false, not-true}
+use Rattle.qs_tree.specs.Text.{doubled, between_quotes}
 use Rattle.qs_lex.specs.Characters.{ends_line, BeginsWithNo, Each}
 use Rattle.std.proofs.lemmas.List.{append_cancel_right}
-use Rattle.qs_lex.specs.Spelling.{doubled, between_quotes, IsLabelText}
+use Rattle.qs_lex.specs.Spelling.{IsLabelText}
 use Rattle.qs_lex.specs.declared.token.Kind.{Kind}
 use Rattle.qs_lex.specs.declared.token.Kind.TheVariants.{Bare, Quoted, Variable, Node, Word as a_word, Opening, Closing, Comma, Plus, Slash, Equals, Stop}
 use Rattle.qs_lex.specs.working.Scan.{quote_len, behind_quote}

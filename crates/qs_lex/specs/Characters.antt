@@ -1,7 +1,6 @@
 -- The characters that the table of tokens speaks of, and the classes of them.
-use Rattle.std.specs.Prelude.{◌≡◌, ℕ, Bool, ◌||◌, ◌==◌, nat_le, List, [], ◌∷◌, true, IsFalse, codes}
+use Rattle.std.specs.Prelude.{◌≡◌, ℕ, Bool, ◌||◌, ◌==◌, List, [], ◌∷◌, true, IsFalse, codes}
 use Rattle.std.specs.List.{list_any}
-use Rattle.std.specs.Char.{is_ascii_alphanumeric}
 use Rattle.std.specs.Int.{is_in_range}
 
 -- the end of a line
@@ -11,10 +10,6 @@ line_feed = 10
 -- it may stand before a line feed, and is a character as any other
 abbrev pub carriage_return : ℕ
 carriage_return = 13
-
--- '"', around a quoted label
-abbrev pub quote : ℕ
-quote = 34
 
 -- '#', before a comment
 abbrev pub number_sign : ℕ
@@ -27,10 +22,6 @@ star = 42
 -- '-', around a word and a node mark
 abbrev pub dash : ℕ
 dash = 45
-
--- a label character: an ASCII letter, an ASCII digit, '_', ''', or a character from U+0080 on
-abbrev pub is_label : ℕ → Bool
-is_label b = is_ascii_alphanumeric b || b == 95 || b == 39 || nat_le 128 b
 
 -- white space: a space, a tab, a line feed or a carriage return
 abbrev pub is_space : ℕ → Bool

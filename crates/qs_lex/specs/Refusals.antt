@@ -1,6 +1,7 @@
 -- The first faulty place of a text, and what a refusal tells of a fault.
 use Rattle.std.specs.Prelude.{◌≡◌, ℕ, ◌<◌, ◌==◌, List, length, slice_index, if◌then◌else◌, codes}
-use Rattle.qs_lex.specs.Characters.{quote, dash, is_label}
+use Rattle.qs_tree.specs.Text.{quote, is_label_byte}
+use Rattle.qs_lex.specs.Characters.{dash}
 use Rattle.qs_lex.specs.Tokens.{StandsIn, Reads}
 use Rattle.qs_lex.specs.Places.{line_of, column_of}
 use Rattle.qs_lex.specs.declared.token.Token.{Token}
@@ -54,7 +55,7 @@ pub record IsFaulty (text : List ℕ) (place : ℕ) : Type 0 where
 -- the cause of a fault goes by the first character at its place. A label character begins a bare label wherever no star
 -- follows the run, so a fault there is of a variable.
 abbrev pub cause_at : ℕ → Cause
-cause_at b = if is_label b then BadVariable
+cause_at b = if is_label_byte b then BadVariable
     else (if b == quote then OpenQuote else (if b == dash then BadWord else BadCharacter))
 
 -- the first faulty place of a text, and its cause: tokens lead to it

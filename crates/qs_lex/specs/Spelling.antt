@@ -1,9 +1,10 @@
 -- How the tokens are written, and what may follow them. A row of the table of tokens is one line of `Spells` and one
 -- of `EndsBefore`.
-use Rattle.std.specs.Prelude.{◌≡◌, ℕ, zero, suc, ◌<◌, ◌≤◌, ◌||◌, ◌==◌, List, [], ◌∷◌, ◌++◌, length, flat_map}
-use Rattle.std.specs.Prelude.{if◌then◌else◌, codes, decimal, not, true}
+use Rattle.std.specs.Prelude.{◌≡◌, ℕ, zero, suc, ◌<◌, ◌≤◌, ◌||◌, ◌==◌, List, [], ◌∷◌, ◌++◌, length}
+use Rattle.std.specs.Prelude.{codes, decimal, not, true}
 use Rattle.std.specs.Char.{is_ascii_digit}
-use Rattle.qs_lex.specs.Characters.{quote, star, dash, is_label, is_variable_letter, ends_line, BeginsWithNo, Each}
+use Rattle.qs_tree.specs.Text.{quote, is_label_byte, between_quotes}
+use Rattle.qs_lex.specs.Characters.{star, dash, is_variable_letter, ends_line, BeginsWithNo, Each}
 use Rattle.qs_lex.specs.Limits.{most_variable_number, most_node_number}
 use Rattle.qs_lex.specs.declared.token.Word.{Word}
 use Rattle.qs_lex.specs.declared.token.Word.TheVariants.{Systeme, Graphe, Fin, Dans, Hors, Et, Ou, Non, Version, Egal}
@@ -33,14 +34,6 @@ since Egal = 2
 since Unique = 2
 since _ = 1
 
--- the text with two quotes for each quote
-abbrev pub doubled : List ℕ → List ℕ
-doubled text = flat_map (λ b. if b == quote then quote ∷ quote ∷ [] else b ∷ []) text
-
--- the quoted label that has this text
-abbrev pub between_quotes : List ℕ → List ℕ
-between_quotes text = quote ∷ doubled text ++ quote ∷ []
-
 -- the name or the number between dashes
 abbrev pub between_dashes : List ℕ → List ℕ
 between_dashes name = dash ∷ name ++ dash ∷ []
@@ -52,7 +45,7 @@ suffix_of (suc n) = decimal (suc n)
 
 -- a token of this kind is written so. A number in decimal has no leading zero.
 abbrev pub Spells : Kind → List ℕ → Type 0
-Spells Bare bytes = (0 < length bytes) × Each is_label bytes
+Spells Bare bytes = (0 < length bytes) × Each is_label_byte bytes
 Spells Quoted bytes = (text : List ℕ) × Each (λ b. not (ends_line b)) text × (bytes ≡ between_quotes text)
 Spells (Variable letter number) bytes =
     (is_variable_letter letter ≡ true) × (number ≤ most_variable_number) × (bytes ≡ letter ∷ star ∷ suffix_of number)
@@ -74,7 +67,7 @@ IsInVersion version _ = Unit {0}
 -- a token of this kind ends where this follows. A bare label is the longest run of label characters, and none where a
 -- star follows. A quote that a quote follows closes no label. The digits of a variable are the longest run of digits.
 abbrev pub EndsBefore : Kind → List ℕ → Type 0
-EndsBefore Bare rest = BeginsWithNo (λ b. is_label b || b == star) rest
+EndsBefore Bare rest = BeginsWithNo (λ b. is_label_byte b || b == star) rest
 EndsBefore Quoted rest = BeginsWithNo (λ b. b == quote) rest
 EndsBefore (Variable letter number) rest = BeginsWithNo is_ascii_digit rest
 EndsBefore (Node number) rest = Unit {0}

@@ -3,16 +3,12 @@
 ghost use Rattle.std.specs.Prelude.{◌≡◌, ◌≤◌, length};
 ghost use Rattle.std.specs.List.{prefix_len};
 ghost use Rattle.std.specs.Char.{is_ascii_digit};
-ghost use Rattle.qs_lex.specs.Characters.{is_label, is_variable_letter, ends_line};
+ghost use Rattle.qs_tree.specs.Text.{is_label_byte};
+ghost use Rattle.qs_lex.specs.Characters.{is_variable_letter, ends_line};
 ghost use Rattle.qs_lex.specs.working.Characters.{is_capital_or_digit};
 ghost use Rattle.qs_lex.specs.Tokens.{blank_len};
 
-/// Whether the byte is of a label character.
-pub fn is_label(byte: u8) -> bool
-    ensures { result ≡ is_label byte }
-{
-    byte.is_ascii_alphanumeric() || byte == b'_' || byte == b'\'' || byte >= 128
-}
+use qs_tree::is_label_byte;
 
 /// Whether the byte may stand in a word or a node mark.
 pub fn is_capital_or_digit(byte: u8) -> bool
@@ -30,10 +26,10 @@ pub fn is_variable_letter(byte: u8) -> bool
 
 /// How many label characters' bytes stand at the front.
 pub fn label_len(bytes: &[u8]) -> usize
-    ensures value { result ≡ prefix_len is_label bytes.now }
+    ensures value { result ≡ prefix_len is_label_byte bytes.now }
     ensures bound { result ≤ length bytes.now }
 {
-    bytes.iter().take_while(|b| is_label(**b)).count()
+    bytes.iter().take_while(|b| is_label_byte(**b)).count()
 }
 
 /// How many capitals and digits stand at the front.

@@ -1,7 +1,8 @@
 //! The texts of labels.
 
 ghost use Rattle.std.specs.Prelude.{◌≡◌, IfOk, string_bytes};
-ghost use Rattle.qs_lex.specs.Spelling.{Spells, between_quotes};
+ghost use Rattle.qs_tree.specs.Text.{between_quotes};
+ghost use Rattle.qs_lex.specs.Spelling.{Spells};
 ghost use Rattle.qs_lex.specs.Tokens.{IsTokenOf, IsLabel, HasLabelText};
 
 use crate::Memory;

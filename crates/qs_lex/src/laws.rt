@@ -2,8 +2,8 @@
 
 ghost use Rattle.std.specs.Prelude.{◌≡◌, ℕ, List, [], ◌∷◌, ◌<◌, ◌≤◌, ◌⊎◌, length, slice_index, encode_utf8, IsUtf8};
 ghost use Rattle.std.specs.Prelude.{IsCharBoundary};
-ghost use Rattle.qs_lex.specs.Characters.{is_label, is_space, is_sign};
-ghost use Rattle.qs_lex.specs.Spelling.{between_quotes};
+ghost use Rattle.qs_tree.specs.Text.{is_label_byte, between_quotes};
+ghost use Rattle.qs_lex.specs.Characters.{is_space, is_sign};
 ghost use Rattle.qs_lex.specs.Tokens.{StandsIn, AreTokensOf, IsTokenOf, HasLabelText};
 ghost use Rattle.qs_lex.specs.Refusals.{IsFirstFault, IsRefusalOf};
 ghost use Rattle.qs_lex.specs.declared.token.Token.{Token};
@@ -47,7 +47,8 @@ pub fn one_label_text()
 pub fn bytes_of_characters()
     ensures ascii { (c : ℕ) → c < 128 → encode_utf8 c ≡ c ∷ [] }
     ensures other { (c k : ℕ) → 128 ≤ c → k < length (encode_utf8 c) → 128 ≤ slice_index (encode_utf8 c) k }
-    ensures label { (c k : ℕ) → k < length (encode_utf8 c) → is_label (slice_index (encode_utf8 c) k) ≡ is_label c }
+    ensures label { (c k : ℕ) → k < length (encode_utf8 c)
+        → is_label_byte (slice_index (encode_utf8 c) k) ≡ is_label_byte c }
     ensures space { (c k : ℕ) → k < length (encode_utf8 c) → is_space (slice_index (encode_utf8 c) k) ≡ is_space c }
     ensures sign { (c k : ℕ) → k < length (encode_utf8 c) → is_sign (slice_index (encode_utf8 c) k) ≡ is_sign c }
 {}

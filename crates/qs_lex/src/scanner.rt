@@ -4,9 +4,10 @@ ghost use Rattle.std.specs.Prelude.{◌≡◌, ◌+◌, ◌<◌, ◌≤◌, IfSo
 ghost use Rattle.qs_lex.specs.working.Scan.{number_after, quote_len, with_digits, variable_of, label_at, mark_at, scan};
 ghost use Rattle.qs_lex.specs.working.Scan.{punctuation};
 
-use crate::characters::{capital_or_digit_len, digit_len, is_label, is_variable_letter, label_len};
+use crate::characters::{capital_or_digit_len, digit_len, is_variable_letter, label_len};
 use crate::refusal::Cause;
 use crate::token::{Kind, Word};
+use qs_tree::is_label_byte;
 
 /// The greatest number of a variable.
 const MOST_VARIABLE_NUMBER: u32 = 99;
@@ -143,7 +144,7 @@ pub fn scan(bytes: &[u8], version: u8) -> Result<(Kind, usize), Cause>
         },
         [b'-', rest @ ..] => mark(rest, version),
         [b'=', b'=', ..] => Ok((Kind::Equals, 2)),
-        [first, ..] if is_label(*first) => label(bytes),
+        [first, ..] if is_label_byte(*first) => label(bytes),
         [first, ..] => punctuation(*first),
     }
 }

@@ -9,13 +9,13 @@ use Rattle.std.proofs.lemmas.Bool.Decides.{nat_tests}
 use Rattle.qs_lex.specs.declared.token.Token.{Token}
 use Rattle.qs_lex.specs.declared.token.Kind.{Kind}
 use Rattle.qs_lex.specs.declared.token.Kind.TheVariants.{Bare, Quoted, Variable}
-use Rattle.qs_lex.specs.Characters.{is_label, is_space, is_variable_letter, ends_line, BeginsWithNo, Each}
-use Rattle.qs_lex.specs.Spelling.{EndsBefore, IsLabelText, between_quotes, suffix_of}
+use Rattle.qs_lex.specs.Characters.{is_space, is_variable_letter, ends_line, BeginsWithNo, Each}
+use Rattle.qs_lex.specs.Spelling.{EndsBefore, IsLabelText, suffix_of}
 use Rattle.qs_lex.specs.Tokens.{blank_len, bytes_of, HasLabelText}
 use Rattle.qs_lex.specs.Grammar.{Sort, a_label_variable, a_tree_variable, a_forest_variable, sort_of, variable_sort}
 use Rattle.qs_lex.proofs.Choices.{each_from_all}
 use Rattle.qs_lex.proofs.Scanned.{letter_is_label}
-use Rattle.qs_tree.specs.Text.{is_bare, is_label_byte, name_of, label_text}
+use Rattle.qs_tree.specs.Text.{is_bare, is_label_byte, name_of, label_text, between_quotes}
 use Rattle.qs_pattern.specs.declared.variable.Var.{Var}
 use Rattle.qs_pattern.specs.declared.pattern.Head.{Head}
 use Rattle.qs_pattern.specs.declared.pattern.Head.TheVariants as head
@@ -29,34 +29,34 @@ use Rattle.qs_ruletext.proofs.ReadBack.{Goes, turned, token}
 
 -- behind it any label and any variable ends
 abbrev pub Closes : List ℕ → Type 0
-Closes left = BeginsWithNo (λ b. (is_label b || eqb b 42) || eqb b 34) left
+Closes left = BeginsWithNo (λ b. (is_label_byte b || eqb b 42) || eqb b 34) left
 
 bare_ends : (left : List ℕ) → Closes left → EndsBefore Bare left
 bare_ends [] c = tt
-bare_ends (b ∷ bs) c = (or_parts (is_label b || eqb b 42) (eqb b 34) c).0
+bare_ends (b ∷ bs) c = (or_parts (is_label_byte b || eqb b 42) (eqb b 34) c).0
 
 quoted_ends : (left : List ℕ) → Closes left → EndsBefore Quoted left
 quoted_ends [] c = tt
-quoted_ends (b ∷ bs) c = (or_parts (is_label b || eqb b 42) (eqb b 34) c).1
+quoted_ends (b ∷ bs) c = (or_parts (is_label_byte b || eqb b 42) (eqb b 34) c).1
 
-no_digit : (b : ℕ) → is_label b ≡ false → is_ascii_digit b ≡ false
+no_digit : (b : ℕ) → is_label_byte b ≡ false → is_ascii_digit b ≡ false
 no_digit b e = grind (arith, nat_tests)
 
 variable_ends : (v : Var) (left : List ℕ) → Closes left → EndsBefore (Variable v.letter v.number) left
 variable_ends v [] c = tt
-variable_ends v (b ∷ bs) c = no_digit b (or_parts (is_label b) (eqb b 42) (bare_ends (b ∷ bs) c)).0
+variable_ends v (b ∷ bs) c = no_digit b (or_parts (is_label_byte b) (eqb b 42) (bare_ends (b ∷ bs) c)).0
 
 -- a label character begins no white space and no comment
-no_sign : (b : ℕ) → is_label b ≡ true → eqb b 35 ≡ false
+no_sign : (b : ℕ) → is_label_byte b ≡ true → eqb b 35 ≡ false
 no_sign b e = grind (arith, nat_tests)
 
-no_space : (b : ℕ) → is_label b ≡ true → is_space b ≡ false
+no_space : (b : ℕ) → is_label_byte b ≡ true → is_space b ≡ false
 no_space b e = grind (arith, nat_tests)
 
-label_no_blank : (b : ℕ) (bs : List ℕ) → is_label b ≡ true → blank_len (b ∷ bs) ≡ 0
+label_no_blank : (b : ℕ) (bs : List ℕ) → is_label_byte b ≡ true → blank_len (b ∷ bs) ≡ 0
 label_no_blank b bs e = cond-false (eqb b 35) _ _ (no_sign b e) ∙ cond-false (is_space b) _ _ (no_space b e)
 
-bare_no_blank : (name left : List ℕ) → 0 < length name → Each is_label name → blank_len (name ++ left) ≡ 0
+bare_no_blank : (name left : List ℕ) → 0 < length name → Each is_label_byte name → blank_len (name ++ left) ≡ 0
 bare_no_blank [] left some each = absurd (omega arith)
 bare_no_blank (b ∷ bs) left some each = label_no_blank b (bs ++ left) each.0
 
@@ -118,7 +118,7 @@ module _ (text : List ℕ) where
   label_case name left true is line c =
       let parts = and_parts _ (list_all is_label_byte name) is in
       let some : 0 < length name = grind (arith, nat_tests, parts.0) in
-      let each : Each is_label name = each_from_all is_label name parts.1 in
+      let each : Each is_label_byte name = each_from_all is_label_byte name parts.1 in
       turned text name left (λ ts rest x. (x.0, x.1, has_text Bare name name x.0 refl x.2 x.3))
       (token text Bare tt name left (some, each) (bare_ends left c) (bare_no_blank name left some each))
   label_case name left false is line c =

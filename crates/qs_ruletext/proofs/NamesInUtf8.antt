@@ -11,7 +11,8 @@ use Rattle.std.proofs.lemmas.Str.Ascii.{IsAscii-nil, IsAscii-cons}
 use Rattle.qs_lex.specs.declared.token.Token.{Token}
 use Rattle.qs_lex.specs.declared.token.Kind.{Kind}
 use Rattle.qs_lex.specs.declared.token.Kind.TheVariants.{Bare, Quoted, Variable, Node, Word as a_word, Opening, Closing, Comma, Plus, Slash, Equals, Stop}
-use Rattle.qs_lex.specs.Spelling.{doubled, between_quotes, IsLabelText}
+use Rattle.qs_tree.specs.Text.{doubled, between_quotes}
+use Rattle.qs_lex.specs.Spelling.{IsLabelText}
 use Rattle.qs_lex.specs.Tokens.{bytes_of, IsTokenOf, HasLabelText}
 use Rattle.qs_lex.proofs.Choices.{first_behind}
 use Rattle.qs_lex.proofs.Readings.{token_placed}

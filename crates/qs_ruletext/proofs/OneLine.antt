@@ -7,7 +7,8 @@ use Rattle.std.proofs.lemmas.Bool.Decides.{nat_tests}
 use Rattle.qs_lex.specs.declared.token.Token.{Token}
 use Rattle.qs_lex.specs.declared.token.Kind.{Kind}
 use Rattle.qs_lex.specs.declared.token.Kind.TheVariants.{Bare, Quoted, Variable, Node, Word as a_word, Opening, Closing, Comma, Plus, Slash, Equals, Stop}
-use Rattle.qs_lex.specs.Characters.{is_label, ends_line, Each}
+use Rattle.qs_tree.specs.Text.{is_label_byte}
+use Rattle.qs_lex.specs.Characters.{ends_line, Each}
 use Rattle.qs_lex.specs.Spelling.{Spells, IsLabelText}
 use Rattle.qs_lex.specs.Tokens.{bytes_of, StandsIn, IsTokenOf}
 use Rattle.qs_lex.proofs.Choices.{each_weaker}
@@ -21,11 +22,11 @@ use Rattle.qs_reader.proofs.Naming.{place_of}
 abbrev IsOnOneLine : List ℕ → Type 0
 IsOnOneLine bytes = Each (λ b. not (ends_line b)) bytes
 
-pub label_ends_none : (b : ℕ) → is_label b ≡ true → not (ends_line b) ≡ true
+pub label_ends_none : (b : ℕ) → is_label_byte b ≡ true → not (ends_line b) ≡ true
 label_ends_none b e = grind (arith, nat_tests)
 
 label_line : (kind : Kind) (bytes label : List ℕ) → Spells kind bytes → IsLabelText kind bytes label → IsOnOneLine label
-label_line Bare bytes label spelled is = subst IsOnOneLine (sym is) (each_weaker is_label (λ b. not (ends_line b)) label_ends_none bytes spelled.1)
+label_line Bare bytes label spelled is = subst IsOnOneLine (sym is) (each_weaker is_label_byte (λ b. not (ends_line b)) label_ends_none bytes spelled.1)
 label_line Quoted bytes label spelled is = subst IsOnOneLine (one_text spelled.0 label (sym spelled.2 ∙ is)) spelled.1
 label_line (Variable letter number) bytes label spelled is = absurd is
 label_line (Node number) bytes label spelled is = absurd is

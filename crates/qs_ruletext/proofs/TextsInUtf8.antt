@@ -8,7 +8,7 @@ use Rattle.std.proofs.lemmas.List.Elements.{All-head, All-tail, All-nil, All-con
 use Rattle.std.proofs.lemmas.Str.{IsUtf8-nil, IsUtf8-append}
 use Rattle.qs_lex.specs.Spelling.{suffix_of}
 use Rattle.qs_tree.specs.declared.cell.Label.{Label}
-use Rattle.qs_tree.specs.Text.{is_bare, name_of, label_text, quoted}
+use Rattle.qs_tree.specs.Text.{is_bare, name_of, label_text, between_quotes}
 use Rattle.qs_pattern.specs.declared.variable.Var.{Var}
 use Rattle.qs_pattern.specs.declared.pattern.Head.{Head}
 use Rattle.qs_pattern.specs.declared.pattern.Head.TheVariants as head
@@ -90,7 +90,7 @@ variable_is v letter =
 
 -- a label is written as its text, or with each quote doubled between two quotes
 pub label_text_is : (name : List ℕ) → IsUtf8 name → IsUtf8 (label_text name)
-label_text_is name utf8 = either_is (is_bare name) name (quoted name) utf8 (between_quotes_is name utf8)
+label_text_is name utf8 = either_is (is_bare name) name (between_quotes name) utf8 (between_quotes_is name utf8)
 
 -- the text of a label: it is one of the names, or nothing
 pub name_is : (names : List (List ℕ)) (l : Label) → AreUtf8 names → IsUtf8 (name_of names l)

@@ -18,17 +18,21 @@ is_label_byte b = is_ascii_alphanumeric b || b == 95 || b == 39 || nat_le 128 b
 abbrev pub is_bare : List ℕ → Bool
 is_bare text = nat_lt 0 (length text) && list_all is_label_byte text
 
--- a byte as it stands between quotes: a quote is written twice
-abbrev pub between_quotes : ℕ → List ℕ
-between_quotes b = if b == 34 then 34 ∷ 34 ∷ [] else b ∷ []
+-- '"', around a quoted label
+abbrev pub quote : ℕ
+quote = 34
 
--- the text between quotes
-abbrev pub quoted : List ℕ → List ℕ
-quoted text = 34 ∷ (flat_map between_quotes text ++ 34 ∷ [])
+-- the text with two quotes for each quote
+abbrev pub doubled : List ℕ → List ℕ
+doubled text = flat_map (λ b. if b == quote then quote ∷ quote ∷ [] else b ∷ []) text
+
+-- the quoted label that has this text
+abbrev pub between_quotes : List ℕ → List ℕ
+between_quotes text = quote ∷ doubled text ++ quote ∷ []
 
 -- how a label with this text is written
 abbrev pub label_text : List ℕ → List ℕ
-label_text text = if is_bare text then text else quoted text
+label_text text = if is_bare text then text else between_quotes text
 
 -- the text that a label stands for among these texts
 abbrev pub name_of : List (List ℕ) → Label → List ℕ

@@ -6,7 +6,8 @@ use Rattle.std.specs.Char.{is_ascii_digit}
 use Rattle.std.proofs.lemmas.Bool.{cases_lt}
 use Rattle.std.proofs.lemmas.Bool.Decides.{nat_tests}
 use Rattle.std.proofs.lemmas.Fmt.{length-decimal-le}
-use Rattle.qs_lex.specs.Characters.{Each, is_label, is_variable_letter}
+use Rattle.qs_tree.specs.Text.{is_label_byte}
+use Rattle.qs_lex.specs.Characters.{Each, is_variable_letter}
 use Rattle.qs_lex.specs.Spelling.{Spells, name_of}
 use Rattle.qs_lex.specs.declared.token.Word.{Word}
 use Rattle.qs_lex.specs.declared.token.Word.TheVariants.{Systeme, Graphe, Fin, Dans, Hors, Et, Ou, Non, Version, Egal, Unique}
@@ -120,7 +121,7 @@ module _ (n : ℕ) (left : List ℕ) where
   number_fits Bare [] rest s e = absurd (omega (arith, s.0))
   number_fits Bare (b ∷ bs) rest s e =
       let first : b ≡ 45 = ap (λ xs. get_or xs 0 0) e in
-      absurd (let no : false ≡ true = ap is_label (sym first) ∙ s.1.0 in cc)
+      absurd (let no : false ≡ true = ap is_label_byte (sym first) ∙ s.1.0 in cc)
   number_fits Quoted bytes rest s e =
       let no : 34 ≡ 45 = ap (λ (bs : List ℕ). get_or (bs ++ rest) 0 0) (sym s.2) ∙ ap (λ xs. get_or xs 0 0) e in
       absurd (omega (arith, no))

@@ -3,11 +3,10 @@
 use Rattle.std.proofs.Common.{◌≡◌, ℕ, zero, suc, ◌-◌, ◌<◌, ◌≤◌, Bool, true, false, not, cond, Ok, refl, sym, ap, ◌∙◌, subst, List, [], ◌∷◌, ◌++◌, length, drop, arith, append_assoc, length-append, take-append-drop}
 use Rattle.std.specs.List.{list_all}
 use Rattle.std.proofs.lemmas.Bool.{and_parts, or_parts}
-use Rattle.std.proofs.lemmas.Bool.Decides.{nat_tests}
 use Rattle.std.proofs.lemmas.List.{drop-drop}
 use Rattle.qs_ruletext.proofs.OneLine.{label_ends_none}
-use Rattle.qs_lex.specs.Characters.{ends_line, is_label, Each}
-use Rattle.qs_lex.specs.Spelling.{between_quotes, between_dashes, name_of as word_name, since, IsInVersion}
+use Rattle.qs_lex.specs.Characters.{ends_line, Each}
+use Rattle.qs_lex.specs.Spelling.{between_dashes, name_of as word_name, since, IsInVersion}
 use Rattle.qs_lex.specs.Tokens.{version_of, blank_len, next_place, bytes_of, StandsIn, Reads}
 use Rattle.qs_lex.specs.declared.token.Token.{Token}
 use Rattle.qs_lex.specs.declared.token.Kind.{Kind}
@@ -19,7 +18,7 @@ use Rattle.qs_lex.proofs.Choices.{each_from_all}
 use Rattle.qs_lex.proofs.Scanned.{scan_finds}
 use Rattle.qs_lex.proofs.Versions.{second_version, kind_in_second}
 use Rattle.qs_lex.proofs.Standing.{one_token, has_byte}
-use Rattle.qs_tree.specs.Text.{is_bare, is_label_byte, label_text}
+use Rattle.qs_tree.specs.Text.{is_bare, is_label_byte, label_text, between_quotes}
 use Rattle.qs_pattern.specs.declared.pattern.Head.TheVariants as head
 use Rattle.qs_ruletext.specs.Reading.{IsHeadOf}
 use Rattle.qs_ruletext.specs.Written.{AreOnOneLine}
@@ -47,7 +46,7 @@ Shows text S piece = (before : Sort) (left : List ℕ) → Closes left → IsAt 
 abbrev pub IsOneThat : (Token → Type 0) → List Token → List Token → Type 0
 IsOneThat P ts rest = (t : Token) × (ts ≡ t ∷ rest) × P t
 
-labels_line : (name : List ℕ) → Each is_label name → Each (λ b. not (ends_line b)) name
+labels_line : (name : List ℕ) → Each is_label_byte name → Each (λ b. not (ends_line b)) name
 labels_line [] each = tt
 labels_line (b ∷ name) each = (label_ends_none b each.0, labels_line name each.1)
 
@@ -139,7 +138,7 @@ module _ (text : List ℕ) where
       subst (λ (k : Kind). IsInVersion (version_of text) k) (ap (λ (x : Kind × ℕ). x.0) pair) found.1.known
 
   line_of : (before : Sort) (name left : List ℕ) (bare : Bool) → is_bare name ≡ bare → Closes left → IsAt text before (cond bare name (between_quotes name) ++ left) → Each (λ b. not (ends_line b)) name
-  line_of before name left true is closes at = labels_line name (each_from_all is_label name (and_parts _ (list_all is_label_byte name) is).1)
+  line_of before name left true is closes at = labels_line name (each_from_all is_label_byte name (and_parts _ (list_all is_label_byte name) is).1)
   line_of before name left false is closes at =
       let found = token_there before (between_quotes name ++ left) (omega arith) refl at in
       let t : Token = found.0 in

@@ -1,9 +1,10 @@
 -- Where a token stands at what is written as a quoted label, it is this label, and so the label has no end of a line.
 use Rattle.std.proofs.Common.{◌≡◌, ℕ, Bool, true, false, not, cond, eqb, List, [], ◌∷◌, ◌++◌, drop, get_or, refl, sym, ap, ◌∙◌, subst, arith, append_assoc}
-use Rattle.std.proofs.lemmas.Bool.{eqb-true, eqb-false}
+use Rattle.std.proofs.lemmas.Bool.{eqb-false}
 use Rattle.qs_lex.proofs.Quotes.{undouble_step}
-use Rattle.qs_lex.specs.Characters.{is_label, is_variable_letter, ends_line, BeginsWithNo, Each}
-use Rattle.qs_lex.specs.Spelling.{Spells, EndsBefore, doubled, between_quotes}
+use Rattle.qs_tree.specs.Text.{is_label_byte, doubled, between_quotes}
+use Rattle.qs_lex.specs.Characters.{is_variable_letter, ends_line, BeginsWithNo, Each}
+use Rattle.qs_lex.specs.Spelling.{Spells, EndsBefore}
 use Rattle.qs_lex.specs.declared.token.Kind.{Kind}
 use Rattle.qs_lex.specs.declared.token.Kind.TheVariants.{Bare, Quoted, Variable, Node, Word as a_word, Opening, Closing, Comma, Plus, Slash, Equals, Stop}
 
@@ -39,7 +40,7 @@ module _ (name left : List ℕ) (none : NoQuote left) where
   quoted_line Bare [] rest s ends whole = absurd (omega (arith, s.0))
   quoted_line Bare (b ∷ bs) rest s ends whole =
       let first : b ≡ 34 = ap (λ xs. get_or xs 0 0) whole in
-      absurd (let no : false ≡ true = ap is_label (sym first) ∙ s.1.0 in cc)
+      absurd (let no : false ≡ true = ap is_label_byte (sym first) ∙ s.1.0 in cc)
   quoted_line Quoted bytes rest s ends whole =
       let same : doubled s.0 ++ (34 ∷ rest) ≡ doubled name ++ (34 ∷ left) =
       sym (append_assoc (doubled s.0) (34 ∷ []) rest) ∙ ap (λ (bs : List ℕ). drop 1 (bs ++ rest)) (sym s.2) ∙ ap (drop 1) whole ∙ append_assoc (doubled name) (34 ∷ []) left

@@ -5,7 +5,8 @@ use Rattle.std.specs.Prelude.{bytes_eq, slice_index, take_while, if◌then◌els
 use Rattle.std.specs.Prelude.{option_map}
 use Rattle.std.specs.List.{prefix_len}
 use Rattle.std.specs.Char.{is_ascii_digit}
-use Rattle.qs_lex.specs.Characters.{quote, star, dash, is_label, is_variable_letter, ends_line}
+use Rattle.qs_tree.specs.Text.{quote, is_label_byte}
+use Rattle.qs_lex.specs.Characters.{star, dash, is_variable_letter, ends_line}
 use Rattle.qs_lex.specs.working.Characters.{is_capital_or_digit}
 use Rattle.qs_lex.specs.Spelling.{name_of, since}
 use Rattle.qs_lex.specs.Limits.{most_variable_number, most_node_number}
@@ -63,7 +64,7 @@ variable_of _ behind = Err BadVariable
 
 abbrev pub label_at : List ℕ → Found
 label_at bytes =
-    let n = prefix_len is_label bytes in
+    let n = prefix_len is_label_byte bytes in
     if slice_index bytes n == star then variable_of (take n bytes) (drop (n + 1) bytes) else Ok (Bare, n)
 
 abbrev pub quoted_of : Option ℕ → Found
@@ -98,7 +99,7 @@ punctuation b =
 abbrev pub scan : ℕ → List ℕ → Found
 scan version [] = Err BadCharacter
 scan version (b ∷ bs) =
-    if is_label b then label_at (b ∷ bs)
+    if is_label_byte b then label_at (b ∷ bs)
     else (if b == quote then quoted_of (quote_len bs)
     else (if b == dash then mark_at version bs
     else (if b == 61 then (if slice_index bs 0 == 61 then Ok (Equals, 2) else Err BadCharacter)
