@@ -1,17 +1,15 @@
 -- Counts that are counted down.
-use Rattle.std.proofs.Common.{◌≡◌, append_assoc, inl, inr, ℕ, zero, suc, ◌+◌, ◌<◌, ◌≤◌, ◌⊎◌, List, [], ◌∷◌, ◌++◌, length, get_or, set, take, refl, sym, ap, ◌∙◌, subst, arith, eq-eqb, append-nil, get_or-set_same, get_or-set_other, Global}
-use Rattle.std.specs.Prelude.{if◌then◌else◌, slice_get, Option, Some, unwrap_or}
+use Rattle.std.proofs.Common.{◌≡◌, append_assoc, inl, inr, ℕ, zero, suc, ◌+◌, ◌<◌, ◌≤◌, ◌⊎◌, List, [], ◌∷◌, ◌++◌, length, get_or, set, take, refl, sym, ap, ◌∙◌, subst, arith, append-nil, get_or-set_same, get_or-set_other, Global}
+use Rattle.std.specs.Prelude.{slice_get, Option, Some, unwrap_or}
 use Rattle.std.specs.Option.{option_map}
-use Rattle.std.proofs.lemmas.Bool.{cases_eq, ne_eqb}
+use Rattle.std.proofs.lemmas.Bool.{cases_eq}
 use Rattle.std.proofs.lemmas.List.{take_more}
 use Rattle.std.specs.declared.vec.Vec.{Vec}
-use Rattle.qs_canon.specs.working.CanonCounts.{times, users_at, uses, reaches, AreCountedDown}
+use Rattle.qs_graph.specs.working.Orders.{times}
+use Rattle.qs_graph.proofs.Numbers.{one-same, one-other, times-append}
+use Rattle.qs_canon.specs.working.CanonCounts.{users_at, uses, reaches, AreCountedDown}
 
 -- ---- how often a number stands in a list
-
-pub times-append : (n : ℕ) (xs ys : List ℕ) → times n (xs ++ ys) ≡ times n xs + times n ys
-times-append n [] ys = omega arith
-times-append n (x ∷ xs) ys = let e = times-append n xs ys in omega (arith, e)
 
 pub times-take : (n : ℕ) (xs : List ℕ) (i : ℕ) → times n (take i xs) ≤ times n xs
 times-take n [] zero = omega arith
@@ -20,10 +18,10 @@ times-take n (x ∷ xs) zero = omega arith
 times-take n (x ∷ xs) (suc i) = let h = times-take n xs i in omega (arith, h)
 
 pub hit : (x i : ℕ) → x ≡ i → times i (x ∷ []) ≡ 1
-hit x i e = ap (λ b. (if b then 1 else 0) + 0) (eq-eqb x i e)
+hit x i e = omega (arith, one-same x i e)
 
 pub miss : (x i : ℕ) → (x ≡ i → ⊥) → times i (x ∷ []) ≡ 0
-miss x i n = ap (λ b. (if b then 1 else 0) + 0) (ne_eqb x i n)
+miss x i n = omega (arith, one-other x i n)
 
 -- of a list that has been gone through up to a place, the number there is still to come
 pub still_to_come : (xs : List ℕ) (i : ℕ) → i < length xs → times (get_or xs i 0) (take i xs) + 1 ≤ times (get_or xs i 0) xs

@@ -5,7 +5,8 @@ use Rattle.std.proofs.lemmas.Bool.{cases_eq, cases_lt, ne_eqb, lt-ltb, le-ltb}
 use Rattle.std.proofs.lemmas.List.{take_more}
 use Rattle.std.specs.declared.vec.Vec.{Vec}
 use Rattle.qs_core.specs.Core.{Fired}
-use Rattle.qs_canon.specs.working.CanonCounts.{times, paths_of, path_at, users_at, AreUsers}
+use Rattle.qs_graph.specs.working.Orders.{times}
+use Rattle.qs_canon.specs.working.CanonCounts.{paths_of, path_at, users_at, AreUsers}
 use Rattle.qs_canon.specs.working.CanonTables.{Table, AreNumbered}
 use Rattle.std.specs.Ordering.{is_lt}
 use Rattle.std.specs.List.Sorted.{IsSortedBy}
@@ -17,7 +18,8 @@ use Rattle.qs_firing.specs.Firings.{order}
 use Rattle.qs_firing.proofs.Orders.{order_total}
 use Rattle.qs_canon.specs.declared.numbers.Next.{Next}
 use Rattle.qs_canon.specs.working.CanonNumbers.{table_of, AllAre, IsEntered, IsInNumbers, AreInNumbers, NeverFalls}
-use Rattle.qs_canon.proofs.CanonCounts.{times-append, hit, miss}
+use Rattle.qs_graph.proofs.Numbers.{times-append}
+use Rattle.qs_canon.proofs.CanonCounts.{hit, miss}
 
 -- ---- paths of firings
 

@@ -6,9 +6,10 @@ use Rattle.std.specs.declared.vec.Vec.{Vec}
 use Rattle.qs_tree.specs.Lists.{◌∈◌}
 use Rattle.qs_graph.proofs.Paths.{place_of}
 use Rattle.qs_core.specs.Core.{Fired}
-use Rattle.qs_canon.specs.working.CanonCounts.{times, paths_of, path_at, AreUsers, users_at, uses}
-use Rattle.qs_canon.proofs.CanonCounts.{times-append, uses-append}
-use Rattle.qs_canon.proofs.CanonNumbers.{if_eq, if_ne}
+use Rattle.qs_graph.specs.working.Orders.{times}
+use Rattle.qs_canon.specs.working.CanonCounts.{paths_of, path_at, AreUsers, users_at, uses}
+use Rattle.qs_graph.proofs.Numbers.{one-same, one-other, times-append, times_in, in_times}
+use Rattle.qs_canon.proofs.CanonCounts.{uses-append}
 
 -- how many places of the path are at arcs of the list
 abbrev pub held : List ℕ → List ℕ → ℕ
@@ -24,8 +25,8 @@ held_more [] k ks = omega arith
 held_more (x ∷ path) k ks = cases (held_more path k ks) (cases_eq k x)
   where
     cases : held path (k ∷ ks) ≡ times k path + held path ks → (k ≡ x) ⊎ (k ≡ x → ⊥) → held (x ∷ path) (k ∷ ks) ≡ times k (x ∷ path) + held (x ∷ path) ks
-    cases e (inl p) = let a = if_eq k x 1 p in let b = if_eq x k 1 (sym p) in omega (arith, e, a, b)
-    cases e (inr n) = let a = if_ne k x 1 n in let b = if_ne x k 1 (λ q. n (sym q)) in omega (arith, e, a, b)
+    cases e (inl p) = omega (arith, e, one-same k x p, one-same x k (sym p))
+    cases e (inr n) = omega (arith, e, one-other k x n, one-other x k (λ q. n (sym q)))
 
 -- of each firing so many uses have passed
 pub uses_held : (paths : List (List ℕ)) (users : List (Vec ℕ Global)) → AreUsers paths users → (i : ℕ) (ks : List ℕ) → times i (uses users ks) ≡ held (path_at paths i) ks
@@ -37,19 +38,6 @@ uses_held paths users a i (k ∷ ks) =
     let u = a k i in
     omega (arith, e, m, h, u)
 
-pub in_times : (ks : List ℕ) (x : ℕ) → x ∈ ks → 1 ≤ times x ks
-in_times [] x i = absurd i
-in_times (k ∷ ks) x (inl e) = let a = if_eq k x 1 (sym e) in omega (arith, a)
-in_times (k ∷ ks) x (inr i) = let h = in_times ks x i in omega (arith, h)
-
-pub times_in : (ks : List ℕ) (x : ℕ) → 1 ≤ times x ks → x ∈ ks
-times_in [] x h = absurd (omega arith)
-times_in (k ∷ ks) x h = cases (cases_eq k x) (λ g. times_in ks x g)
-  where
-    cases : (k ≡ x) ⊎ (k ≡ x → ⊥) → (1 ≤ times x ks → x ∈ ks) → x ∈ (k ∷ ks)
-    cases (inl e) ih = inl (sym e)
-    cases (inr n) ih = let a = if_ne k x 1 n in inr (ih (omega (arith, a, h)))
-
 -- where no arc stands twice in the list
 module _ (ks : List ℕ) (once : (x : ℕ) → times x ks ≤ 1) where
   pub held_low : (path : List ℕ) → held path ks ≤ length path
@@ -58,14 +46,14 @@ module _ (ks : List ℕ) (once : (x : ℕ) → times x ks ≤ 1) where
 
   pub held_all : (path : List ℕ) → length path ≤ held path ks → (x : ℕ) → x ∈ path → x ∈ ks
   held_all [] h x i = absurd i
-  held_all (y ∷ path) h x (inl e) = let l = held_low path in let j : y ∈ ks = times_in ks y (omega (arith, h, l)) in subst (λ z. z ∈ ks) (sym e) j
+  held_all (y ∷ path) h x (inl e) = let l = held_low path in let j : y ∈ ks = in_times y ks (omega (arith, h, l)) in subst (λ z. z ∈ ks) (sym e) j
   held_all (y ∷ path) h x (inr i) = let o = once y in held_all path (omega (arith, h, o)) x i
 
 pub all_held : (ks path : List ℕ) → ((x : ℕ) → x ∈ path → x ∈ ks) → length path ≤ held path ks
 all_held ks [] all = omega arith
 all_held ks (x ∷ path) all =
     let h = all_held ks path (λ y i. all y (inr i)) in
-    let o = in_times ks x (all x (inl refl)) in
+    let o = times_in x ks (all x (inl refl)) in
     omega (arith, h, o)
 
 -- a list in which no place has what another one has
@@ -75,10 +63,10 @@ each_once (k ∷ ks) one x = cases (each_once ks (λ l m y a b. let e = one (suc
   where
     cases : times x ks ≤ 1 → (k ≡ x) ⊎ (k ≡ x → ⊥) → (0 < times x ks) ⊎ (times x ks ≤ 0) → times x (k ∷ ks) ≤ 1
     cases r (inl e) (inl h) =
-        let (j, at) = place_of ks x (times_in ks x (omega (arith, h))) in
+        let (j, at) = place_of ks x (in_times x ks (omega (arith, h))) in
         absurd (omega (arith, one 0 (suc j) x (ap (λ (y : ℕ). Some y) e) at))
-    cases r (inl e) (inr h) = let a = if_eq k x 1 e in omega (arith, a, h)
-    cases r (inr n) c = let a = if_ne k x 1 n in omega (arith, a, r)
+    cases r (inl e) (inr h) = omega (arith, one-same k x e, h)
+    cases r (inr n) c = omega (arith, one-other k x n, r)
 
 -- the first of a list
 pub in_take : (n : ℕ) (ks : List ℕ) (x : ℕ) → x ∈ take n ks → (l : ℕ) × (l < n) × (slice_get ks l ≡ Some x)

@@ -26,7 +26,9 @@ use Rattle.qs_canon.specs.declared.numbers.Next.{Next}
 use Rattle.qs_canon.specs.declared.numbers.Numbers.{Numbers}
 use Rattle.qs_canon.specs.Rounds.{Stage, firings, after, Round, Rounds}
 use Rattle.qs_canon.specs.working.CanonTables.{Table, IsTable, IsNodeTable, AreNumbered, in_numbers, IsNextBy, opening_table}
-use Rattle.qs_canon.specs.working.CanonCounts.{times, paths_of, path_at, AreUsers, uses, reaches, AreCountedDown}
+use Rattle.qs_graph.specs.working.Orders.{one_if, times}
+use Rattle.qs_graph.proofs.Numbers.{one-same, times_in, in_times}
+use Rattle.qs_canon.specs.working.CanonCounts.{paths_of, path_at, AreUsers, uses, reaches, AreCountedDown}
 use Rattle.qs_canon.specs.working.CanonNumbers.{table_of, IsReadyAt, IsInNumbers, AreInNumbers, NeverFalls}
 use Rattle.qs_canon.specs.working.CanonSteps.{stage_now, firings_in, IsBetween, IsFinal, IsAtWork, IsFinished, IsRounding}
 use Rattle.qs_canon.proofs.Histories.{stands, at_of, fires_low}
@@ -34,8 +36,8 @@ use Rattle.qs_canon.proofs.Stages.{rounds_grown, rounds_apart, length-firings}
 use Rattle.qs_canon.proofs.Same.{turned_arc}
 use Rattle.qs_canon.proofs.Rounds.{length-after}
 use Rattle.qs_canon.proofs.Law.{arc_low}
-use Rattle.qs_canon.proofs.CanonNumbers.{table_within, if_eq}
-use Rattle.qs_canon.proofs.CanonPassed.{held, uses_held, in_times, times_in, held_low, held_all, all_held, each_once, in_take, take_in, in_drop, same_first, first_few, path_there, uses_all, held_none}
+use Rattle.qs_canon.proofs.CanonNumbers.{table_within}
+use Rattle.qs_canon.proofs.CanonPassed.{held, uses_held, held_low, held_all, all_held, each_once, in_take, take_in, in_drop, same_first, first_few, path_there, uses_all, held_none}
 use Rattle.qs_canon.proofs.CanonCounts.{times-take}
 use Rattle.qs_canon.proofs.Canonical as canonical
 use Rattle.qs_canon.proofs.Counting.{from_long}
@@ -85,12 +87,12 @@ ready_long T done [] (m ∷ nexts) a = absurd a
 ready_long T done (p ∷ places) [] a = absurd a
 ready_long T done (p ∷ places) (m ∷ nexts) (x, a) = ap suc (ready_long T done places nexts a)
 
-times_sum : (p : ℕ) (xs : List ℕ) → times p xs ≡ sum_by (λ x. if x == p then 1 else 0) xs
+times_sum : (p : ℕ) (xs : List ℕ) → times p xs ≡ sum_by (λ x. one_if (x == p)) xs
 times_sum p [] = refl
-times_sum p (x ∷ xs) = let e = times_sum p xs in let s = sum_by-cons (λ y. if y == p then 1 else 0) x xs in omega (arith, e, s)
+times_sum p (x ∷ xs) = let e = times_sum p xs in let s = sum_by-cons (λ y. one_if (y == p)) x xs in omega (arith, e, s)
 
 times_moved : (p : ℕ) (xs ys : List ℕ) → IsPermutation xs ys → times p ys ≡ times p xs
-times_moved p xs ys m = times_sum p ys ∙ sum_by-IsPermutation (λ x. if x == p then 1 else 0) xs ys m ∙ sym (times_sum p xs)
+times_moved p xs ys m = times_sum p ys ∙ sum_by-IsPermutation (λ x. one_if (x == p)) xs ys m ∙ sym (times_sum p xs)
 
 number_in : (T : Table) (ks ls : List ℕ) → AreNumbered T ks ls → (k : ℕ) → k ∈ ks → (l : ℕ) × (T k ≡ Some l)
 number_in T [] ls a k i = absurd i
@@ -291,10 +293,10 @@ module _ (M : Machine) (users : List (Vec ℕ Global)) (now : Numbers) (missing 
         omega (arith, c, h, d)
 
     ready_is : (i : ℕ) → i ∈ ready → (0 < get_or missing i 0) × (get_or left i 0 ≡ 0)
-    ready_is i j = let t = in_times ready i j in let r = a.ready_are i in reaches_one (get_or missing i 0) (get_or left i 0) (omega (arith, t, r))
+    ready_is i j = let t = times_in i ready j in let r = a.ready_are i in reaches_one (get_or missing i 0) (get_or left i 0) (omega (arith, t, r))
 
     ready_at : (i : ℕ) → 0 < get_or missing i 0 → get_or left i 0 ≡ 0 → i ∈ ready
-    ready_at i h e = let r = a.ready_are i in let t = reaches_at (get_or missing i 0) (get_or left i 0) h e in times_in ready i (omega (arith, r, t))
+    ready_at i h e = let r = a.ready_are i in let t = reaches_at (get_or missing i 0) (get_or left i 0) h e in in_times i ready (omega (arith, r, t))
 
     ready_once : (i : ℕ) → times i ready ≤ 1
     ready_once i = let r = a.ready_are i in let l = reaches_low (get_or missing i 0) (get_or left i 0) in omega (arith, r, l)
@@ -353,9 +355,9 @@ module _ (M : Machine) (users : List (Vec ℕ Global)) (now : Numbers) (missing 
         above o j (inl (inr b)) = absurd (rises.0 o j b)
         above o j (inr k) =
             let p = one_place m o (each m (inl refl)) (each o (inr j)) k in
-            let t = in_times (places_in nexts) o.place (in_map (λ (next : Next). next.place) nexts o j) in
+            let t = times_in o.place (places_in nexts) (in_map (λ (next : Next). next.place) nexts o j) in
             let h = one o.place in
-            let z = if_eq m.place o.place 1 p in
+            let z = one-same m.place o.place p in
             absurd (omega (arith, t, h, z))
 
     module _ (nexts order : List Next) (are : AreInNumbers T done ready nexts) (moved : IsPermutation nexts order) (rises : NeverFalls order) where

@@ -2,7 +2,8 @@
 
 ghost use Rattle.std.specs.Prelude.{◌≡◌, ◌<◌, ◌≤◌, ◌^◌, ℕ, List, [], length, map, slice_index, IfOk, OnOk};
 ghost use Rattle.qs_tree.specs.Lists.{◌∈◌};
-ghost use Rattle.qs_canon.specs.working.CanonCounts.{times, paths_of, users_at, AreUsers, uses, AreCountedDown};
+ghost use Rattle.qs_graph.specs.working.Orders.{times};
+ghost use Rattle.qs_canon.specs.working.CanonCounts.{paths_of, users_at, AreUsers, uses, AreCountedDown};
 ghost use Rattle.qs_canon.specs.working.CanonNumbers.{IsEntered};
 
 use qs_core::Fired;

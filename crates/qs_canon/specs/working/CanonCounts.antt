@@ -1,16 +1,12 @@
 -- How often arcs are in the paths of firings, and counts that are counted down.
-use Rattle.std.specs.Prelude.{ℕ, zero, suc, ◌+◌, ◌==◌, ◌≡◌, if◌then◌else◌}
+use Rattle.std.specs.Prelude.{ℕ, zero, suc, ◌+◌, ◌≡◌}
 use Rattle.std.specs.Prelude.{List, [], ◌∷◌, ◌++◌, map, slice_get, slice_index}
 use Rattle.std.specs.Prelude.{unwrap_or}
 use Rattle.std.specs.Option.{option_map}
 use Rattle.std.proofs.Common.{Global}
 use Rattle.std.specs.declared.vec.Vec.{Vec}
+use Rattle.qs_graph.specs.working.Orders.{times}
 use Rattle.qs_core.specs.Core.{Fired}
-
--- How often n stands in the list.
-abbrev pub times : ℕ → List ℕ → ℕ
-times n [] = 0
-times n (x ∷ xs) = (if x == n then 1 else 0) + times n xs
 
 -- The paths of firings that are done; and the one at place i, or none.
 abbrev pub paths_of : List Fired → List (List ℕ)

@@ -8,7 +8,8 @@ use Rattle.qs_firing.specs.Firings.{Before}
 use Rattle.qs_core.specs.Core.{Fired}
 use Rattle.qs_canon.specs.declared.numbers.Next.{Next}
 use Rattle.qs_canon.specs.working.CanonTables.{Table, AreNumbered, in_numbers}
-use Rattle.qs_canon.specs.working.CanonCounts.{times, users_at}
+use Rattle.qs_graph.specs.working.Orders.{times}
+use Rattle.qs_canon.specs.working.CanonCounts.{users_at}
 use Rattle.std.proofs.Common.{Global}
 use Rattle.std.specs.declared.vec.Vec.{Vec}
 

@@ -14,7 +14,8 @@ use Rattle.qs_canon.specs.declared.numbers.Numbers.{Numbers}
 use Rattle.qs_canon.specs.Rounds.{Stage, Done, firings, after, Round, Rounds}
 use Rattle.qs_canon.specs.working.CanonTables.{IsRecorded, IsTable, IsNodeTable, AreNumbered}
 use Rattle.qs_canon.specs.working.CanonTables.{in_numbers, IsUnderWay}
-use Rattle.qs_canon.specs.working.CanonCounts.{times, paths_of, path_at, AreUsers, uses}
+use Rattle.qs_graph.specs.working.Orders.{times}
+use Rattle.qs_canon.specs.working.CanonCounts.{paths_of, path_at, AreUsers, uses}
 use Rattle.qs_canon.specs.working.CanonNumbers.{table_of}
 use Rattle.qs_canon.specs.working.CanonChains.{IsTraced}
 

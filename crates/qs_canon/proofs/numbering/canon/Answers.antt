@@ -5,7 +5,8 @@ use Rattle.std.proofs.lemmas.List.{nil_from_length}
 use Rattle.std.proofs.lemmas.List.Sorted.{length_permutation}
 use Rattle.qs_tree.specs.Lists.{◌∈◌}
 use Rattle.qs_core.specs.Core.{Fired}
-use Rattle.qs_canon.specs.working.CanonCounts.{paths_of, AreUsers, times, uses, AreCountedDown}
+use Rattle.qs_graph.specs.working.Orders.{times}
+use Rattle.qs_canon.specs.working.CanonCounts.{paths_of, AreUsers, uses, AreCountedDown}
 use Rattle.qs_canon.specs.working.CanonNumbers.{table_of, IsReadyAt, AreInNumbers}
 use Rattle.qs_canon.specs.working.CanonSteps.{stage_now, IsRounding}
 use Rattle.qs_canon.proofs.CanonPassed.{written_over}
