@@ -4,6 +4,7 @@ use Rattle.std.specs.Prelude.{IfSome, Result, Ok, Err, IfOk, OnErr}
 use Rattle.std.specs.Option.{option_map}
 use Rattle.std.proofs.lemmas.Option.{slice_get_within}
 use Rattle.std.proofs.lemmas.List.{length-map}
+use Rattle.qs_tree.proofs.Decisions.{same_there}
 use Rattle.qs_tree.proofs.Elements.{set_here}
 use Rattle.qs_graph.specs.Graphs.{Arc}
 use Rattle.qs_graph.proofs.Paths.{slice_get-append}
@@ -353,12 +354,9 @@ here [] k x e = refl
 here (y ∷ xs) zero x e = cc
 here (y ∷ xs) (suc k) x e = here xs k x e
 
-some_same : {X : Type 0} (o : Option X) (x y : X) → o ≡ Some x → o ≡ Some y → x ≡ y
-some_same o x y p q = cc
-
 pub one_of : {X C : Type 0} (f : X → Option C) (ps : List X) (x b : C) → All (λ p. f p ≡ Some b) ps → All (λ p. f p ≡ Some x) ps → 0 < length ps → x ≡ b
 one_of f [] x b own known some = absurd (omega arith)
-one_of f (p ∷ ps) x b own known some = some_same (f p) x b (known 0 p (omega arith)) (own 0 p (omega arith))
+one_of f (p ∷ ps) x b own known some = same_there (known 0 p (omega arith)) (own 0 p (omega arith))
 
 -- one pass that has seen the end is enough
 pub ended_by : {g : Ghosts MachineWithRoom Entry} (b : Board) (ps : List (Pass MachineWithRoom Entry g)) (M : Machine) → M.base ≡ board_base b → IsReplayed M

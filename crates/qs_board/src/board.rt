@@ -3,7 +3,7 @@
 ghost use Rattle.std.specs.Prelude.{◌≡◌, ◌<◌, ◌≤◌, ◌+◌, ◌*◌, ◌^◌, ◌⊎◌, ℕ, List, [], length, slice_get, None, Some};
 ghost use Rattle.std.specs.Prelude.{All, IfOk, OnErr, vec_len};
 ghost use Rattle.std.specs.Arc.{arc_value};
-ghost use Rattle.qs_pattern.specs.Limits.{most_patterns};
+ghost use Rattle.qs_pattern.specs.Limits.{most_patterns, rule_bound};
 ghost use Rattle.qs_graph.specs.Graphs.{Arc as GraphArc};
 ghost use Rattle.qs_firing.specs.Work.{IsRightFor};
 ghost use Rattle.qs_turn.specs.History.{ContinuedByOthers};
@@ -50,7 +50,7 @@ impl Board {
     ) -> Result<(Board, Vec<Pass>), AllocError>
         requires limit { 1 ≤ limit }
         requires workers { 1 ≤ workers }
-        requires rules { length rules.now < 4294967295 }
+        requires rules { length rules.now < rule_bound }
         requires arcs { length start.now.arcs + most_patterns * limit < 2 ^ 32 }
         requires nodes { start.now.nodes + most_patterns * limit < 2 ^ 32 }
         ensures base { IfOk result (λ r. board_base r.0
@@ -73,7 +73,7 @@ impl Board {
     ) -> Result<(Board, Vec<Pass>), AllocError>
         requires limit { 1 ≤ limit }
         requires workers { 1 ≤ workers }
-        requires rules { length (arc_value rules).items < 4294967295 }
+        requires rules { length (arc_value rules).items < rule_bound }
         requires arcs { length start.now.arcs + most_patterns * limit < 2 ^ 32 }
         requires nodes { start.now.nodes + most_patterns * limit < 2 ^ 32 }
         ensures base { IfOk result (λ r. board_base r.0

@@ -1,6 +1,7 @@
 //! The closure of a grammar.
 
 ghost use Rattle.std.specs.Prelude.{◌≡◌, ◌<◌, ◌≤◌, length, IfOk};
+ghost use Rattle.qs_pattern.specs.Limits.{rule_bound};
 ghost use Rattle.qs_worker.specs.Crews.{CanRunOn};
 ghost use Rattle.qs_cascade.specs.ClosureEnds.{IsAnswerOfClosure};
 
@@ -46,7 +47,7 @@ pub fn closure_alone(
     start: &Graph,
     limit: u32,
 ) -> Result<Option<Closure>, AllocError>
-    requires rules { length rules.now < 4294967295 }
+    requires rules { length rules.now < rule_bound }
     requires can_run { CanRunOn start.now limit }
     ensures { IfOk result (IsAnswerOfClosure rules.now start.now limit) }
 {
@@ -66,7 +67,7 @@ pub fn closure<R: Threads + Wait + Sync, G: Gate + Sync>(
     gate: &G,
 ) -> Result<Option<Closure>, AllocError>
     requires workers { 1 ≤ workers }
-    requires rules { length rules.now < 4294967295 }
+    requires rules { length rules.now < rule_bound }
     requires can_run { CanRunOn start.now limit }
     ensures { IfOk result (IsAnswerOfClosure rules.now start.now limit) }
 {

@@ -1,6 +1,7 @@
 //! What a grammar leaves.
 
 ghost use Rattle.std.specs.Prelude.{◌≡◌, ◌<◌, ◌≤◌, ◌^◌, length, IfOk, IfSome};
+ghost use Rattle.qs_pattern.specs.Limits.{rule_bound};
 ghost use Rattle.qs_clean.specs.Cleaning.{IsClosureOfValid};
 ghost use Rattle.qs_worker.specs.Crews.{CanRunOn};
 ghost use Rattle.qs_cascade.specs.Stages.{IsAnswerOfStage, IsEndBehind};
@@ -52,7 +53,7 @@ pub fn stage_alone(
     start: &Graph,
     limit: u32,
 ) -> Result<StageEnd, AllocError>
-    requires rules { length rules.now < 4294967295 }
+    requires rules { length rules.now < rule_bound }
     requires can_run { CanRunOn start.now limit }
     ensures { IfOk result (IsAnswerOfStage rules.now start.now limit) }
 {
@@ -72,7 +73,7 @@ pub fn stage<R: Threads + Wait + Sync, G: Gate + Sync>(
     gate: &G,
 ) -> Result<StageEnd, AllocError>
     requires workers { 1 ≤ workers }
-    requires rules { length rules.now < 4294967295 }
+    requires rules { length rules.now < rule_bound }
     requires can_run { CanRunOn start.now limit }
     ensures { IfOk result (IsAnswerOfStage rules.now start.now limit) }
 {

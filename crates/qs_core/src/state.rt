@@ -4,7 +4,7 @@ ghost use Rattle.std.specs.Prelude.{◌≡◌, ◌<◌, ◌≤◌, ◌+◌, ◌*
 ghost use Rattle.std.specs.Prelude.{Some};
 ghost use Rattle.std.specs.Arc.{arc_value};
 ghost use Rattle.qs_tree.specs.Lists.{◌∈◌};
-ghost use Rattle.qs_pattern.specs.Limits.{most_patterns};
+ghost use Rattle.qs_pattern.specs.Limits.{most_patterns, rule_bound};
 ghost use Rattle.qs_pattern.specs.Rules.{Rule as RuleOfPatterns, IsAccepted, all_unique};
 ghost use Rattle.qs_graph.specs.Graphs.{Arc as GraphArc, IsValid, IsEntry, IsExit};
 ghost use Rattle.qs_core.specs.Runs.{IsReplayed};
@@ -92,7 +92,7 @@ impl State {
     ) -> Result<State, AllocError>
         requires limit { 1 ≤ limit }
         requires seats { 1 ≤ seats }
-        requires rules { length rules.now < 4294967295 }
+        requires rules { length rules.now < rule_bound }
         requires arcs { length start.now.arcs + most_patterns * limit < 2 ^ 32 }
         requires nodes { start.now.nodes + most_patterns * limit < 2 ^ 32 }
         ensures { IfOk result (λ s. s.machine
@@ -112,7 +112,7 @@ impl State {
     ) -> Result<State, AllocError>
         requires limit { 1 ≤ limit }
         requires seats { 1 ≤ seats }
-        requires rules { length (arc_value rules).items < 4294967295 }
+        requires rules { length (arc_value rules).items < rule_bound }
         requires arcs { length start.now.arcs + most_patterns * limit < 2 ^ 32 }
         requires nodes { start.now.nodes + most_patterns * limit < 2 ^ 32 }
         ensures { IfOk result (λ s. s.machine ≡ opened (record {

@@ -2,6 +2,7 @@
 
 ghost use Rattle.std.specs.Prelude.{◌≡◌, ◌<◌, ◌≤◌, IfOk, IfErr, length, map};
 ghost use Rattle.std.specs.List.{All};
+ghost use Rattle.qs_pattern.specs.Limits.{rule_bound};
 ghost use Rattle.qs_deck.specs.Limits.{most_systems};
 ghost use Rattle.qs_check.specs.Checking.{CanBeChecked};
 ghost use Rattle.qs_deck.specs.Decks.{rule_of, grammar_of, meaning_of};
@@ -37,7 +38,7 @@ fn checked_rules(alloc: Global, raws: Vec<RawRule>, unique: bool) -> Result<Vec<
 /// The grammar, where each of its rules is accepted; or the first cause why the first that isn't accepted isn't.
 fn checked_system(alloc: Global, system: RawSystem) -> Result<System, CheckEnd>
     requires can { All CanBeChecked system.rules }
-    requires few { length system.rules < 4294967295 }
+    requires few { length system.rules < rule_bound }
     ensures system { IfOk result (λ checked. grammar_of checked ≡ meaning_of system) }
     ensures accepted { IfOk result (λ _. AreAccepted system.rules) }
     ensures refused { IfErr result (IsFirstRefused system.rules) }
@@ -59,7 +60,7 @@ fn checked_system(alloc: Global, system: RawSystem) -> Result<System, CheckEnd>
 /// The grammars, where each of their rules is accepted; or the first cause why the first that isn't accepted isn't.
 fn checked_systems(alloc: Global, systems: Vec<RawSystem>) -> Result<Vec<System>, CheckEnd>
     requires can { All CanBeChecked (rules_of systems.items) }
-    requires few { All (λ system. length system.rules < 4294967295) systems.items }
+    requires few { All (λ system. length system.rules < rule_bound) systems.items }
     ensures systems { IfOk result (λ checked. map grammar_of checked.items ≡ map meaning_of systems.items) }
     ensures accepted { IfOk result (λ _. AreAccepted (rules_of systems.items)) }
     ensures refused { IfErr result (IsFirstRefused (rules_of systems.items)) }
@@ -76,7 +77,7 @@ fn checked_systems(alloc: Global, systems: Vec<RawSystem>) -> Result<Vec<System>
 /// the word `-SYSTEME-` of the 257th grammar, or the first cause why the first rule that isn't accepted isn't.
 pub fn checked(alloc: Global, systems: Vec<RawSystem>) -> Result<Vec<System>, CheckEnd>
     requires can { All CanBeChecked (rules_of systems.items) }
-    requires few { All (λ system. length system.rules < 4294967295) systems.items }
+    requires few { All (λ system. length system.rules < rule_bound) systems.items }
     ensures systems { IfOk result (λ checked. map grammar_of checked.items ≡ map meaning_of systems.items) }
     ensures few { IfOk result (λ _. length systems.items ≤ most_systems) }
     ensures accepted { IfOk result (λ _. AreAccepted (rules_of systems.items)) }

@@ -1,6 +1,7 @@
 //! Grammars with their names.
 
 ghost use Rattle.std.specs.Prelude.{◌<◌, length};
+ghost use Rattle.qs_pattern.specs.Limits.{rule_bound};
 ghost use Rattle.qs_deck.specs.Marks.{HaveMark};
 ghost use Rattle.qs_deck.specs.working.Marks.{HaveMark-prop};
 
@@ -14,6 +15,6 @@ pub struct System {
     pub name: Label,
     pub unique: bool,
     pub rules: Vec<Rule>,
-    ghost few: { length rules.items < 4294967295 },
+    ghost few: { length rules.items < rule_bound },
     ghost marked: { HaveMark unique rules.items } by { HaveMark-prop unique rules.items },
 }

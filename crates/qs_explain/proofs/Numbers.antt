@@ -1,5 +1,5 @@
 -- Numbers with a comma between two, one more at a time.
-use Rattle.std.proofs.Common.{◌≡◌, ℕ, zero, suc, ◌+◌, ◌-◌, ◌<◌, ◌≤◌, Bool, true, List, [], ◌∷◌, ◌++◌, length, map, take, get_or, refl, sym, ◌∙◌, ap, append_assoc, append-nil, arith}
+use Rattle.std.proofs.Common.{◌≡◌, ℕ, suc, ◌+◌, ◌-◌, ◌<◌, ◌≤◌, Bool, true, List, [], ◌∷◌, ◌++◌, length, map, take, get_or, sym, ◌∙◌, ap, append_assoc, append-nil, arith}
 use Rattle.std.specs.Prelude.{flat_map, codes, decimal, nat_lt}
 use Rattle.std.proofs.lemmas.Bool.Decides.{nat_tests}
 use Rattle.std.proofs.lemmas.List.{take_more, length-take}
@@ -15,7 +15,7 @@ rest-more (m ∷ ns) n =
     ap (λ xs. (codes "," ++ decimal m) ++ xs) (rest-more ns n)
     ∙ sym (append_assoc (codes "," ++ decimal m) (flat_map (λ t. codes "," ++ t) (map decimal ns)) (codes "," ++ decimal n))
 
-some_before : (k : ℕ) → nat_lt 0 (suc k) ≡ true
+pub some_before : (k : ℕ) → nat_lt 0 (suc k) ≡ true
 some_before k = grind (arith, nat_tests)
 
 pub numbers-more : (ns : List ℕ) (n : ℕ) (b : Bool) → b ≡ nat_lt 0 (length ns) → numbers_text (ns ++ n ∷ []) ≡ numbers_text ns ++ next_number b n

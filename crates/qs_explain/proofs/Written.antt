@@ -6,11 +6,7 @@ use Rattle.qs_tree.proofs.Kept.{kept-append}
 use Rattle.qs_graphtext.specs.Texts.{line}
 use Rattle.qs_graphtext.proofs.Written.{begins}
 
--- what stands before an arc's line leaves what stood there, and makes the comment with it
-pub kept_arc : (start number o1 o2 o3 : List ℕ) → o1 ≡ start ++ codes "# arc " → o2 ≡ o1 ++ number → o3 ≡ o2 ++ codes " " → take (length start) o3 ≡ start
-kept_arc start number o1 o2 o3 e1 e2 e3 =
-    kept-append start o2 o3 (codes " ") (kept-append start o1 o2 number (kept-append start start o1 (codes "# arc ") (take-length start) e1) e2) e3
-
+-- what stands before an arc's line makes the comment with it
 pub arc_done : (start number arc o1 o2 o3 o4 : List ℕ) → o1 ≡ start ++ codes "# arc " → o2 ≡ o1 ++ number → o3 ≡ o2 ++ codes " " → o4 ≡ o3 ++ arc → o4 ≡ start ++ (codes "# arc " ++ (number ++ (codes " " ++ arc)))
 arc_done start number arc o1 o2 o3 o4 e1 e2 e3 e4 = rw (e4, e3, e2, e1) (simp append_assoc refl)
 

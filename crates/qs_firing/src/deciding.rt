@@ -3,6 +3,7 @@
 ghost use Rattle.std.specs.Prelude.{◌≡◌, ◌<◌, ◌↔◌, List, length, IsTrue, IfOk};
 ghost use Rattle.qs_tree.specs.Trees.{Tree};
 ghost use Rattle.qs_tree.specs.Cells.{trees_of};
+ghost use Rattle.qs_pattern.specs.Limits.{rule_bound};
 ghost use Rattle.qs_pattern.specs.Patterns.{patterns, AreInClass};
 ghost use Rattle.qs_pattern.specs.Substitutions.{variables_of};
 ghost use Rattle.qs_pattern.specs.Instances.{variables, IsMatch};
@@ -73,7 +74,7 @@ pub fn fires(
     view: &View,
     firing: &Firing,
 ) -> Result<bool, AllocError>
-    requires { length rules.now < 4294967295 }
+    requires { length rules.now < rule_bound }
     ensures { IfOk result (λ b. IsTrue b ↔ Fires rules.now view.now firing.now) }
 {
     let Some(rule) = rules.get(firing.rule as usize) else {

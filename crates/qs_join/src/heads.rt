@@ -3,6 +3,7 @@
 ghost use Rattle.std.specs.Prelude.{◌≡◌, ◌<◌, ◌++◌, ◌∷◌, [], List, length, map, IfOk, OnOk, Option};
 ghost use Rattle.std.specs.Prelude.{if◌then◌else◌};
 ghost use Rattle.qs_tree.specs.declared.cell.Label.{Label};
+ghost use Rattle.qs_pattern.specs.Limits.{rule_bound};
 ghost use Rattle.qs_pattern.specs.Rules.{IsAccepted};
 ghost use Rattle.qs_join.specs.Heads.{roots_asked, is_same_root, places_from, key_of, exact_of, wild_of, below_of};
 ghost use Rattle.qs_join.specs.Heads.{AreHeadsOf};
@@ -62,7 +63,7 @@ fn key(root: Label, first: Label) -> u64
 impl Heads {
     /// The places of the left sides of these rules, of which there are fewer than 4,294,967,295.
     pub fn new(alloc: Global, rules: &[Rule]) -> Result<Heads, AllocError>
-        requires { length rules.now < 4294967295 }
+        requires { length rules.now < rule_bound }
         ensures { IfOk result (λ heads. AreHeadsOf rules.now heads) }
     {
         let mut heads = Heads {

@@ -5,6 +5,7 @@ ghost use Rattle.std.specs.Arc.{arc_value};
 ghost use Rattle.qs_tree.specs.Lists.{◌∈◌};
 ghost use Rattle.qs_tree.specs.Trees.{kids};
 ghost use Rattle.qs_tree.specs.Cells.{tree_of};
+ghost use Rattle.qs_pattern.specs.Limits.{rule_bound};
 ghost use Rattle.qs_pattern.specs.Patterns.{patterns, NoForestAtTop};
 ghost use Rattle.qs_pattern.specs.Instances.{inst, IsCovered};
 ghost use Rattle.qs_pattern.specs.Rules.{AreLeftSidesInClass};
@@ -208,7 +209,7 @@ pub fn joined_by(
 
 /// The same, for which the heads are made first. There are fewer than 4,294,967,295 rules.
 pub fn joined(alloc: Global, rules: &[Rule], view: &View, newest: u32) -> Result<Joined, AllocError>
-    requires rules { length rules.now < 4294967295 }
+    requires rules { length rules.now < rule_bound }
     requires newest { newest < length view.now }
     ensures arc { IfOk result (λ joined. joined.arc ≡ newest) }
     ensures right { IfOk result (IsRightFor rules.now view.now) }

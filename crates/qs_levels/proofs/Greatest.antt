@@ -3,6 +3,7 @@ use Rattle.std.proofs.Common.{◌≡◌, ◌⊎◌, ℕ, ◌+◌, ◌<◌, ◌�
 use Rattle.std.proofs.lemmas.Bool.{cases_lt}
 use Rattle.qs_tree.specs.Lists.{◌∈◌}
 use Rattle.qs_tree.specs.declared.cell.Label.{Label}
+use Rattle.qs_tree.proofs.Decisions.{same_there}
 use Rattle.qs_tree.proofs.Members.{from_append, in_append_left, in_append_right, at_place}
 use Rattle.qs_pattern.specs.declared.pattern.Pattern.{Pattern}
 use Rattle.qs_pattern.specs.Patterns.{Patterns, patterns, count}
@@ -12,9 +13,6 @@ use Rattle.qs_levels.specs.working.Accepting.{HasLevels, IsGreatestOf, AreAbove}
 use Rattle.qs_levels.proofs.Sides.{no_top, in_tops}
 use Rattle.qs_levels.proofs.TopLists.{one_more_has, one_more_labels}
 use Rattle.qs_levels.proofs.Roots.{some_top}
-
-one_answer : {X : Type 0} (o : Option X) (x y : X) → o ≡ Some x → o ≡ Some y → x ≡ y
-one_answer o x y p q = let e : Some x ≡ Some y = sym p ∙ q in cc
 
 module _ (level_of : ℕ → Option ℕ) where
   pub none_greatest : IsGreatestOf level_of (patterns []) 0
@@ -49,7 +47,7 @@ module _ (level_of : ℕ → Option ℕ) where
       new = subst (λ ls. l ∈ ls) (sym (one_more_labels 0 true ps i p l here read label)) (in_append_right (top_labels (patterns (take i ps))) (l ∷ []) l (inl refl))
 
       same : (x : Label) (m : ℕ) → x ≡ l → level_of x.0 ≡ Some m → n ≡ m
-      same x m e at = one_answer (level_of l.0) n m level (ap (λ (y : Label). level_of y.0) (sym e) ∙ at)
+      same x m e at = same_there level (ap (λ (y : Label). level_of y.0) (sym e) ∙ at)
 
       has_more : HasLevels level_of (patterns (take i ps)) → HasLevels level_of (patterns (take (i + 1) ps))
       has_more h = record {

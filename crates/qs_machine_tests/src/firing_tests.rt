@@ -1,6 +1,7 @@
 //! Which firings fire, their order, and copies.
 
 ghost use Rattle.std.specs.Prelude.{◌<◌, length};
+ghost use Rattle.qs_pattern.specs.Limits.{rule_bound};
 
 use crate::reading::rules_of;
 use qs_deck::read_deck;
@@ -54,7 +55,7 @@ fn fires_on(
     arcs: &[Edge],
     row: (u32, &[u32], Option<usize>),
 ) -> Result<bool, AllocError>
-    requires { length rules.now < 4294967295 }
+    requires { length rules.now < rule_bound }
 {
     let given = firing(alloc, arcs, row.0, row.1, row.2)?;
     fires(alloc, rules, view, &given)

@@ -1,6 +1,7 @@
 //! The work of an arc, and the arcs at a node.
 
 ghost use Rattle.std.specs.Prelude.{◌<◌, ◌≤◌, length};
+ghost use Rattle.qs_pattern.specs.Limits.{rule_bound};
 ghost use Rattle.qs_join.specs.Heads.{AreHeadsOf};
 
 use crate::reading::rules_of;
@@ -56,7 +57,7 @@ fn has_work(
     arc: u32,
     wanted: &[(u32, &[u32])],
 ) -> Result<bool, AllocError>
-    requires { length rules.now < 4294967295 }
+    requires { length rules.now < rule_bound }
 {
     if arc >= view.len() {
         return Ok(false);
@@ -185,7 +186,7 @@ fn add_plainly(
     path: &[u32],
     found: &mut Vec<Firing>,
 ) -> Result<(), AllocError>
-    requires { length rules.now < 4294967295 }
+    requires { length rules.now < rule_bound }
 {
     let Some(rule) = rules.get(number as usize) else {
         return Ok(());
@@ -212,7 +213,7 @@ fn plain_work(
     view: &View,
     newest: u32,
 ) -> Result<Vec<Firing>, AllocError>
-    requires { length rules.now < 4294967295 }
+    requires { length rules.now < rule_bound }
 {
     let mut found = Vec::new(alloc);
     for (number, rule) in rules.iter().enumerate() {
@@ -238,7 +239,7 @@ fn are_same(made: &[Made], firings: &[Firing]) -> bool {
 
 /// How many firings the arcs of a view have together, where both calls give the work of each as the plain search does.
 fn agreed(alloc: Global, rules: &[Rule], view: &View) -> Result<Option<usize>, AllocError>
-    requires { length rules.now < 4294967295 }
+    requires { length rules.now < rule_bound }
 {
     let heads = Heads::new(alloc, rules)?;
     let mut count: usize = 0;

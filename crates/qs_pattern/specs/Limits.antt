@@ -12,3 +12,7 @@ most_cells = 256
 -- the most different variables that a rule may have
 abbrev pub most_variables : ℕ
 most_variables = 32
+
+-- a grammar has fewer rules than this, so that the number of each fits in 32 bits
+abbrev pub rule_bound : ℕ
+rule_bound = 4294967295

@@ -1,7 +1,7 @@
 //! One worker, alone.
 
 ghost use Rattle.std.specs.Prelude.{◌≡◌, ◌<◌, ◌≤◌, ◌+◌, ◌*◌, ◌^◌, length, IfOk};
-ghost use Rattle.qs_pattern.specs.Limits.{most_patterns};
+ghost use Rattle.qs_pattern.specs.Limits.{most_patterns, rule_bound};
 ghost use Rattle.qs_worker.specs.Crews.{CanRunOn};
 ghost use Rattle.qs_worker.specs.Saturation.{IsSaturated};
 ghost use Rattle.qs_worker.specs.working.Turns.{IsBetween, IsNext, IsPartly, IsWorked, AreAccepted};
@@ -85,7 +85,7 @@ pub fn saturate_alone(
     limit: u32,
 ) -> Result<State, AllocError>
     requires limit { 1 ≤ limit }
-    requires rules { length rules.now < 4294967295 }
+    requires rules { length rules.now < rule_bound }
     requires arcs { length start.now.arcs + most_patterns * limit < 2 ^ 32 }
     requires nodes { start.now.nodes + most_patterns * limit < 2 ^ 32 }
     ensures { IfOk result (λ state. IsSaturated rules.now start.now limit 1 state.machine) }

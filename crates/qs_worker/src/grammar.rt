@@ -2,6 +2,7 @@
 
 ghost use Rattle.std.specs.Prelude.{◌≡◌, ◌<◌, length, IfOk};
 ghost use Rattle.std.specs.Arc.{arc_value};
+ghost use Rattle.qs_pattern.specs.Limits.{rule_bound};
 ghost use Rattle.qs_join.specs.Heads.{AreHeadsOf};
 
 use qs_core::share_rules;
@@ -24,6 +25,7 @@ impl Model for Grammar {
     ghost use Rattle.std.specs.Prelude.{◌<◌, List, length};
     ghost use Rattle.std.specs.Arc.{arc_value};
     ghost use Rattle.std.specs.Coded.{coded_list};
+    ghost use Rattle.qs_pattern.specs.Limits.{rule_bound};
     ghost use Rattle.qs_pattern.specs.Rules.{Rule as RuleOfPatterns};
     ghost use Rattle.qs_pattern.specs.working.Codes.{rule_code};
     ghost use Rattle.qs_join.specs.Heads.{AreHeadsOf};
@@ -35,13 +37,13 @@ impl Model for Grammar {
     ghost view = { λ g. (arc_value g.rules).items };
 
     ghost invariant = { λ g. AreHeadsOf (arc_value g.rules).items g.heads
-        × (length (arc_value g.rules).items < 4294967295) };
+        × (length (arc_value g.rules).items < rule_bound) };
 }
 
 impl Grammar {
     /// The grammar with these rules, which are copied. There are fewer than 4,294,967,295 of them.
     pub fn new(alloc: Global, rules: &[Rule]) -> Result<Grammar, AllocError>
-        requires { length rules.now < 4294967295 }
+        requires { length rules.now < rule_bound }
         ensures { IfOk result (λ g. g ≡ rules.now) }
     {
         let heads = Heads::new(alloc, rules)?;
@@ -52,7 +54,7 @@ impl Grammar {
     /// Its rules, in their order. Takes no memory.
     pub fn rules(&self) -> &[Rule]
         ensures value { result.now ≡ self.now }
-        ensures few { length self.now < 4294967295 }
+        ensures few { length self.now < rule_bound }
     {
         &self.rules
     }
@@ -67,7 +69,7 @@ impl Grammar {
     /// Its rules, with one owner more. None is copied.
     pub(crate) fn shared_rules(&self) -> Result<Arc<Vec<Rule>>, AllocError>
         ensures { IfOk result (λ rules. ((arc_value rules).items ≡ self.now)
-            × (length (arc_value rules).items < 4294967295)) }
+            × (length (arc_value rules).items < rule_bound)) }
     {
         Arc::try_clone(&self.rules)
     }

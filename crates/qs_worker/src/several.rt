@@ -1,7 +1,7 @@
 //! Several workers, as threads, beside each other on one board.
 
 ghost use Rattle.std.specs.Prelude.{◌≡◌, ◌<◌, ◌≤◌, ◌+◌, ◌*◌, ◌^◌, List, [], length, IfOk, OnOk, OnErr, All, vec_len};
-ghost use Rattle.qs_pattern.specs.Limits.{most_patterns};
+ghost use Rattle.qs_pattern.specs.Limits.{most_patterns, rule_bound};
 ghost use Rattle.qs_graph.specs.Graphs.{Arc};
 ghost use Rattle.qs_firing.specs.Work.{IsRightFor};
 ghost use Rattle.qs_core.specs.Core.{HasClaim, IsFree, HasEnded};
@@ -286,7 +286,7 @@ pub fn saturate<R: Threads + Wait + Sync, G: Gate + Sync>(
 ) -> Result<State, AllocError>
     requires limit { 1 ≤ limit }
     requires workers { 1 ≤ workers }
-    requires rules { length rules.now < 4294967295 }
+    requires rules { length rules.now < rule_bound }
     requires arcs { length start.now.arcs + most_patterns * limit < 2 ^ 32 }
     requires nodes { start.now.nodes + most_patterns * limit < 2 ^ 32 }
     ensures { IfOk result (λ state. IsSaturated rules.now start.now limit workers state.machine) }

@@ -1,7 +1,5 @@
 -- For given bytes and a given job one text is defined at most, where a text has one refusal or one deck.
-use Rattle.std.proofs.Common.{◌≡◌, ℕ, List, [], ◌∷◌, Option, Some, None, refl, sym, ap, ◌∙◌, subst, inl, inr, arith}
-use Rattle.std.specs.Io.KnownBytes.{append_known}
-use Rattle.std.proofs.lemmas.List.{append-nil}
+use Rattle.std.proofs.Common.{◌≡◌, ℕ, List, [], ◌∷◌, Option, sym, ap, ◌∙◌, subst, inl, inr, arith}
 use Rattle.qsys.proofs.GoingOn.{nothing_more}
 use Rattle.qs_io.specs.Devices.{AppendsProperPrefix}
 use Rattle.qs_io.specs.working.Devices.{AppendsPrefix}

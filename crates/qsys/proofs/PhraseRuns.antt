@@ -1,16 +1,15 @@
 -- The grammars that are run on a line of words, one after another.
-use Rattle.std.proofs.Common.{◌≡◌, ◌<◌, ◌≤◌, ◌+◌, ◌*◌, ℕ, zero, suc, Option, Some, None, List, [], ◌∷◌, length, map, drop, get_or, refl, sym, ap, subst, inl, inr, arith}
+use Rattle.std.proofs.Common.{◌≡◌, ◌<◌, ◌≤◌, ◌+◌, ◌*◌, ℕ, zero, suc, Option, Some, None, List, [], ◌∷◌, length, map, drop, get_or, refl, sym, ap, subst, inl, arith}
 use Rattle.std.proofs.Math.ListN.{drop_of_length-le}
 use Rattle.std.proofs.lemmas.List.{length-map}
 use Rattle.qs_graph.proofs.Lay.{tree_in_chain}
 use Rattle.qs_tree.specs.declared.cell.Label.{Label}
 use Rattle.qs_tree.specs.Lists.{◌∈◌}
-use Rattle.qs_tree.specs.Trees.{Tree}
 use Rattle.qs_tree.specs.Text.{IsNamed}
 use Rattle.qs_tree.proofs.Members.{from_map, in_flat_map}
 use Rattle.qs_pattern.specs.Rules.{Rule, IsAccepted, IsAcceptable}
 use Rattle.qs_ruletext.specs.WrittenRules.{WrittenRule}
-use Rattle.qs_graph.specs.Graphs.{Arc, QGraph}
+use Rattle.qs_graph.specs.Graphs.{QGraph}
 use Rattle.qs_graph.proofs.Lines.{length-chain}
 use Rattle.qs_clean.specs.Cascades.{Ending, all_done, by_limit}
 use Rattle.qs_cascade.specs.declared.stages.StageEnd.{StageEnd}
@@ -23,7 +22,6 @@ use Rattle.qs_deck.specs.Decks.{Grammar, grammar_of, meaning_of, rule_of}
 use Rattle.qs_deck.specs.Named.{AreSystemsNamed}
 use Rattle.qs_deck.specs.PhraseTexts.{IsPhraseText}
 use Rattle.qs_deck.proofs.Meanings.{all_member}
-use Rattle.qs_graph.specs.Chains.{chain}
 use Rattle.qsys.specs.Cascading.{AreAccepted}
 use Rattle.qsys.specs.PhraseTexts.{EndsWith}
 use Rattle.qsys.specs.declared.telling.Telling.TheVariants as telling

@@ -1,19 +1,18 @@
 -- The line of a reading, one tree after another.
-use Rattle.std.proofs.Common.{◌≡◌, ℕ, zero, suc, ◌+◌, ◌<◌, ◌≤◌, Bool, true, Some, slice_get, List, [], ◌∷◌, ◌++◌, length, map, take, get_or, refl, sym, ◌∙◌, ap, subst, inl, inr, append_assoc, append-nil, take_all, length-take-le, arith}
+use Rattle.std.proofs.Common.{◌≡◌, ℕ, suc, ◌+◌, ◌<◌, ◌≤◌, Bool, Some, slice_get, List, [], ◌∷◌, ◌++◌, length, map, take, get_or, refl, sym, ◌∙◌, ap, subst, inl, inr, append_assoc, append-nil, take_all, length-take-le, arith}
 use Rattle.std.specs.Prelude.{flat_map, codes, nat_lt, if◌then◌else◌}
-use Rattle.std.proofs.lemmas.Bool.Decides.{nat_tests}
 use Rattle.std.proofs.lemmas.List.{take_more, map_push, length-map}
 use Rattle.std.proofs.lemmas.List.Elements.{filter_map-append}
-use Rattle.std.proofs.lemmas.Option.{slice_get_within}
 use Rattle.qs_graph.proofs.Numbers.{in_take}
 use Rattle.qs_graph.proofs.Paths.{leads_low}
 use Rattle.qs_tree.specs.Lists.{◌∈◌}
 use Rattle.qs_tree.specs.Text.{tree_text}
 use Rattle.qs_tree.proofs.Members.{in_get_or, at_place}
-use Rattle.qs_graph.specs.Graphs.{Arc, QGraph, Leads, trees_on, arcs_at}
+use Rattle.qs_graph.specs.Graphs.{Arc, QGraph, trees_on, arcs_at}
 use Rattle.qs_phrase.specs.Readings.{AreFirst}
 use Rattle.qs_ruletext.specs.Texts.{joined}
 use Rattle.qs_phrase.proofs.Ways.{arc_at}
+use Rattle.qs_explain.proofs.Numbers.{some_before}
 use Rattle.qsys.specs.PhraseTexts.{reading_line}
 use Rattle.qsys.specs.working.Phrasing.{next_tree}
 
@@ -26,9 +25,6 @@ rest_more : (between : List ℕ) (texts : List (List ℕ)) (text : List ℕ) →
 rest_more between [] text = append-nil (between ++ text)
 rest_more between (t ∷ texts) text =
     ap (λ xs. (between ++ t) ++ xs) (rest_more between texts text) ∙ sym (append_assoc (between ++ t) (flat_map (λ t. between ++ t) texts) (between ++ text))
-
-some_before : (k : ℕ) → nat_lt 0 (suc k) ≡ true
-some_before k = grind (arith, nat_tests)
 
 joined_more : (between : List ℕ) (texts : List (List ℕ)) (text : List ℕ) (b : Bool) → b ≡ nat_lt 0 (length texts) → joined between (texts ++ text ∷ []) ≡ joined between texts ++ ((if b then between else []) ++ text)
 joined_more between [] text b e = append-nil text ∙ ap (λ c. (if c then between else []) ++ text) (sym e)

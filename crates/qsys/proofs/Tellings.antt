@@ -17,7 +17,6 @@ use Rattle.qs_clean.specs.Cascades as plain
 use Rattle.qs_clean.proofs.CascadeExistence.{reached_left, reached_valid}
 use Rattle.qs_clean.proofs.Outcomes.{same_both}
 use Rattle.qs_canon.proofs.Rounds.{not_both}
-use Rattle.qs_firing.proofs.Ascending.{same_ascending}
 use Rattle.qs_cascade.specs.declared.stages.StageEnd.{StageEnd}
 use Rattle.qs_cascade.specs.declared.stages.StageEnd.TheVariants as end
 use Rattle.qs_cascade.specs.ClosureEnds.{IsClosureEnd, HasNoNewLabels}
@@ -179,9 +178,6 @@ module _ (t : Telling) (L : ℕ) (names : List (List ℕ)) where
     by_limit,
     subst (λ (bytes : List ℕ). Tells t L names G (grammar ∷ others) bytes by_limit) (sym (append-nil text)) (limit_told t L names G grammar others text told is),
   )
-
-lt-asym : (m n : ℕ) → m < n → n < m → ⊥
-lt-asym m n a b = omega arith
 
 -- a cascade has one explanation
 pub one_explanation : {L : ℕ} {names : List (List ℕ)} {G : QGraph} {grammars : List Grammar} {t u : List ℕ} {e d : Ending}

@@ -3,6 +3,7 @@
 ghost use Rattle.std.specs.Prelude.{◌≡◌, ◌≤◌, ◌<◌, List, length, map};
 ghost use Rattle.qs_tree.specs.Lists.{◌∈◌};
 ghost use Rattle.qs_tree.specs.declared.cell.Label.{Label};
+ghost use Rattle.qs_deck.specs.Limits.{most_systems};
 ghost use Rattle.qs_deck.specs.Decks.{grammar_of};
 ghost use Rattle.qs_deck.specs.Named.{AreSystemsNamed};
 ghost use Rattle.qsys.specs.Words.{IsLimit};
@@ -37,7 +38,7 @@ pub fn phrases<C: Crew, K: Sink>(
     requires ready { AreReady teller.now.systems.now teller.now.grammars.now }
     requires named { AreSystemsNamed (length teller.now.names.now) teller.now.systems.now }
     requires accepted { AreAccepted (map grammar_of teller.now.systems.now) }
-    requires systems { length teller.now.systems.now ≤ 256 }
+    requires systems { length teller.now.systems.now ≤ most_systems }
     requires lines { (words : List Label) → words ∈ lines.now → (word : Label) → word ∈ words
         → word.0 < length teller.now.names.now }
     requires some { (words : List Label) → words ∈ lines.now → 0 < length words }

@@ -4,6 +4,7 @@ ghost use Rattle.std.specs.Prelude.{◌≡◌, ◌<◌, ◌≤◌, ◌++◌, IfO
 ghost use Rattle.qs_graphtext.specs.Texts.{line};
 ghost use Rattle.qs_tree.specs.declared.cell.Label.{Label};
 ghost use Rattle.qs_tree.specs.Lists.{◌∈◌};
+ghost use Rattle.qs_deck.specs.Limits.{most_systems, most_words};
 ghost use Rattle.qs_deck.specs.Decks.{grammar_of};
 ghost use Rattle.qs_deck.specs.Named.{AreSystemsNamed};
 ghost use Rattle.qsys.specs.Words.{IsLimit};
@@ -76,9 +77,9 @@ impl PhraseTeller<'_> {
         requires ready { AreReady self.now.systems.now self.now.grammars.now }
         requires named { AreSystemsNamed (length self.now.names.now) self.now.systems.now }
         requires accepted { AreAccepted (map grammar_of self.now.systems.now) }
-        requires systems { length self.now.systems.now ≤ 256 }
+        requires systems { length self.now.systems.now ≤ most_systems }
         requires some { 0 < length words.now }
-        requires few { length words.now ≤ 65536 }
+        requires few { length words.now ≤ most_words }
         requires words { (word : Label) → word ∈ words.now → word.0 < length self.now.names.now }
         ensures { IfOk result (λ told. IsBlockOf self.now.limit self.now.readings self.now.names.now
             (map grammar_of self.now.systems.now) number words.now told.end told.text.items) }
