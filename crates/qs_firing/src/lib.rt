@@ -5,6 +5,7 @@ mod deciding;
 mod firing;
 mod joined;
 mod key;
+mod last_places;
 pub mod laws;
 mod paths;
 mod places;

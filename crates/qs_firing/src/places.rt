@@ -3,8 +3,8 @@
 ghost use Rattle.std.specs.Prelude.{◌≡◌, ◌<◌, ◌-◌, ◌^◌, ◌++◌, ◌∷◌, [], ℕ, length, take, OnOk, OnErr, Some, slice_get};
 ghost use Rattle.qs_firing.specs.Neighbours.{IsLastPlace};
 
+use crate::last_places::LastPlaces;
 use std::alloc::{AllocError, Global};
-use std::collections::HashMap;
 use std::marker::Model;
 
 /// A place of such a list: the number that stands there, and the last place before it at which the same number stands.
@@ -18,20 +18,18 @@ pub struct Place {
 #[derive(Drop)]
 pub struct Places {
     places: Vec<Place>,
-    // The last place of each number that stands in the list.
-    last: HashMap<u32, u32>,
+    last: LastPlaces,
 }
 
 impl Model for Places {
-    ghost use Rattle.std.specs.Prelude.{List, ℕ, nat_eq};
-    ghost use Rattle.std.specs.HashMap.{get};
-    ghost use Rattle.qs_firing.specs.working.Places.{numbers_at, IsPlaced};
+    ghost use Rattle.std.specs.Prelude.{List, ℕ};
+    ghost use Rattle.qs_firing.specs.working.Places.{numbers_at, known_place, IsPlaced};
 
     ghost Value = { List ℕ };
 
     ghost view = { λ p. numbers_at p.places.items };
 
-    ghost invariant = { λ p. IsPlaced p.places.items (λ n. get nat_eq p.last n) };
+    ghost invariant = { λ p. IsPlaced p.places.items (known_place p.last) };
 }
 
 impl Places {
@@ -41,7 +39,7 @@ impl Places {
     {
         Places {
             places: Vec::new(alloc),
-            last: HashMap::new(alloc),
+            last: LastPlaces::new(alloc),
         }
     }
 
@@ -49,7 +47,7 @@ impl Places {
     pub fn last(&self, number: u32) -> Option<u32>
         ensures { IsLastPlace self.now number result }
     {
-        self.last.get(&number).copied()
+        self.last.get(number)
     }
 
     /// The last place before this one of the number that stands at it. Takes no memory.
@@ -69,11 +67,11 @@ impl Places {
         let before = self.last(number);
         let place = self.places.len() as u32;
         self.places.push(Place { number, before })?;
-        match self.last.insert(number, place) {
-            Ok(_) => Ok(()),
-            Err(_) => {
+        match self.last.put(number, place) {
+            Ok(()) => Ok(()),
+            Err(error) => {
                 self.places.pop();
-                Err(AllocError)
+                Err(error)
             }
         }
     }
@@ -85,15 +83,6 @@ impl Places {
         let Some(place) = self.places.pop() else {
             return;
         };
-        match place.before {
-            Some(before) => {
-                if let Some(last) = self.last.get_mut(&place.number) {
-                    *last = before;
-                }
-            }
-            None => {
-                self.last.remove(&place.number);
-            }
-        }
+        self.last.set_back(place.number, place.before);
     }
 }
