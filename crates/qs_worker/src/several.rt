@@ -27,8 +27,11 @@ use std::thread::Threads;
 // How often, at most, a worker gives way to other threads before it asks the board again.
 const MOST_YIELDS: u32 = 64;
 
-// How often a worker other than the first gives way to other threads behind each of its works.
-const PAUSE: u32 = 40;
+// How often, at most, a worker other than the first gives way to other threads behind one of its works.
+const MOST_PAUSE: u32 = 1024;
+
+// Works are small where the others publish an arc while a worker gives way so often.
+const SMALL: u32 = 16;
 
 // For so many arcs of the start a further thread is worth while.
 const ARCS_EACH: usize = 16;
@@ -47,6 +50,19 @@ fn give_way(times: u32) -> u32 {
         times * 2
     } else {
         times
+    }
+}
+
+// How often a worker other than the first gives way behind a work: it paused so often behind the work before, and so
+// many arcs have come since. Where works are small, nearly all of their time is turns, which hold up each other, so it
+// pauses longer and leaves more of them to the first worker; where they take long, it soon makes no pause at all.
+fn next_pause(pause: u32, come: u32) -> u32 {
+    if come <= pause / SMALL {
+        pause / 2
+    } else if pause < MOST_PAUSE {
+        pause * 2 + 1
+    } else {
+        pause
     }
 }
 
@@ -169,26 +185,22 @@ fn work_on<R: Wait, G: Gate>(
 {
     let mut view = View::empty(alloc);
     let mut times = 1;
+    let mut pause = 0;
     for _ in rt.forever() {
+        let seen = view.len();
         match round(rt, alloc, grammar, board, gate, pass, &mut view) {
             Ok(true) => {
                 times = 1;
-                pause_behind_work(pass.number());
+                if pass.number() != 0 {
+                    pause = next_pause(pause, view.len().saturating_sub(seen));
+                    give_way(pause);
+                }
             }
             Ok(false) => times = give_way(times),
             Err(_) => return,
         }
     }
     unreachable!()
-}
-
-// The pause of the worker with this number behind one of its works. Where works are small, nearly all of their time is
-// turns, which hold up each other, so all but the first worker leave most of them to it; beside a work that takes long,
-// the pause is nothing.
-fn pause_behind_work(number: u32) {
-    if number != 0 {
-        give_way(PAUSE);
-    }
 }
 
 // How many of so many workers are to be threads beside each other, on a graph of so many arcs: no more than there are
