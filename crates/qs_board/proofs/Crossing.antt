@@ -1,7 +1,7 @@
 -- Threads may share a board: what lies behind its turns may go from thread to thread.
 use denote.Param.Send.{IsSend, IsSync, sendable}
 use denote.Param.SendFields.{declared_send, declared_sync}
-use Rattle.std.proofs.Crossing.{crosses}
+use Rattle.std.proofs.Crossing.{crosses, Box-send}
 use Rattle.qs_pattern.proofs.pattern.Pattern.TheLaws.TheKnot.{crosses as patterns, send-Pattern, sync-Pattern}
 use Rattle.qs_pattern.proofs.condition.Cond.TheLaws.TheKnot.{crosses as conditions, send-Cond, sync-Cond}
 use Rattle.qs_pattern.specs.contracts.pattern.Pattern as Pattern
@@ -78,8 +78,11 @@ fields_send = declared_send State.TheInside.the_type (
 pub state_send : IsSend State.the_row
 state_send = search (sendable, fields_send) depth 20
 
+kept_inside_send : IsSend Kept.TheInside.the_row
+kept_inside_send = declared_send Kept.TheInside.the_type (Box-send State.the_row state_send, tt)
+
 pub kept_send : IsSend Kept.the_row
-kept_send = search (sendable, state_send) depth 20
+kept_send = search (sendable, kept_inside_send) depth 20
 
 pub board_sync : IsSync Board.the_row
 board_sync = declared_sync Board.the_type (turns.the_sync Kept.the_row _ _ kept_send, tt)

@@ -83,7 +83,13 @@ impl Board {
         ensures numbers { IfOk result (λ r. (i : ℕ) (p : _) → slice_get r.1.items i ≡ Some p → number_of p ≡ i) }
     {
         let state = State::open_shared(alloc, rules, start, limit, workers)?;
-        let (turns, passes) = Turns::open(alloc, Kept { state }, workers)?;
+        let (turns, passes) = Turns::open(
+            alloc,
+            Kept {
+                state: Box::new(alloc, state)?,
+            },
+            workers,
+        )?;
         Ok((Board { turns }, passes))
     }
 
@@ -184,6 +190,7 @@ impl Board {
     {
         let Board { turns } = self;
         let Kept { state } = turns.close(passes);
+        let state = Box::into_inner(state);
         let _replayed = state.journal();
         state
     }

@@ -20,7 +20,8 @@ use std::marker::Model;
 /// machine.
 #[derive(Drop)]
 pub struct Kept {
-    pub(crate) state: State,
+    // It stands on the heap, since a turn moves it there and back.
+    pub(crate) state: Box<State>,
 }
 
 impl Model for Kept {
@@ -31,7 +32,7 @@ impl Model for Kept {
 
     ghost coded = { machine_code };
 
-    ghost view = { λ k. k.state };
+    ghost view = { λ k. k.state.value };
 }
 
 impl Told for Kept {
