@@ -36,7 +36,7 @@ use Rattle.qs_board.specs.declared.entry.Entry.{Entry}
 use Rattle.qs_board.specs.declared.entry.Entry.TheVariants as entry
 use Rattle.qs_board.specs.History.{entry_seat, entries, history_of, IsBehind, HoldsBehind}
 use Rattle.qs_board.specs.declared.board.Board.{Board}
-use Rattle.qs_board.specs.Calls.{Finds}
+use Rattle.qs_board.specs.Calls.{Finds, HasAllIfTook}
 use Rattle.qs_board.specs.Seats.{board_base, SeesEnd, KnowsClaim, KnowsPut}
 use Rattle.qs_board.specs.working.Turns.{GoesOn}
 use Rattle.qs_board.proofs.Histories.{Leads, holds, beginning}
@@ -247,7 +247,7 @@ module _ (B : Base) (i : ℕ) (seen : List Entry) (M : Machine) (finds : Finds B
 goes_as : (i j : ℕ) (M N : Machine) (seen : List Entry) → j ≡ i → seen ≡ history_of M → GoesOn j (history_of M) (history_of N) → GoesOn i seen (history_of N)
 goes_as i j M N seen same found goes = subst (λ (es : List Entry). GoesOn i es (history_of N)) (sym found) (subst (λ n. GoesOn n (history_of M) (history_of N)) same goes)
 
-pub claim_goes : {E : Type 0} (r : Result Claim E) (i j : ℕ) (M N : Machine) (view seen_arcs : List Arc) (seen : List Entry) → j ≡ i → seen ≡ history_of M → IfOk r (λ a. IsClaimed M j a N × (view ≡ seen_arcs)) → OnErr r (N ≡ M) → GoesOn i seen (history_of N)
+pub claim_goes : {E : Type 0} (r : Result Claim E) (i j : ℕ) (M N : Machine) (view seen_arcs : List Arc) (seen : List Entry) → j ≡ i → seen ≡ history_of M → IfOk r (λ a. IsClaimed M j a N × HasAllIfTook a seen_arcs view) → OnErr r (N ≡ M) → GoesOn i seen (history_of N)
 claim_goes (Ok a) i j M N view arcs seen same found ok err = goes_as i j M N seen same found (claim_enters M N j a ok.0)
 claim_goes (Err e) i j M N view arcs seen same found ok err = goes_nowhere i seen (history_of N) (ap history_of err ∙ sym found)
 
@@ -259,11 +259,11 @@ pub halt_goes : (i j : ℕ) (M N : Machine) (seen : List Entry) → j ≡ i → 
 halt_goes i j M N seen same found halts = goes_as i j M N seen same found (halt_enters M N j halts)
 
 -- the view behind a claim
-same_arcs : {E : Type 0} (r : Result Claim E) (j : ℕ) (M N : Machine) (view : List Arc) → IfOk r (λ a. IsClaimed M j a N × (view ≡ M.state.graph.arcs)) → OnErr r (N ≡ M) → N.state.graph.arcs ≡ M.state.graph.arcs
+same_arcs : {E : Type 0} (r : Result Claim E) (j : ℕ) (M N : Machine) (view : List Arc) → IfOk r (λ a. IsClaimed M j a N × HasAllIfTook a M.state.graph.arcs view) → OnErr r (N ≡ M) → N.state.graph.arcs ≡ M.state.graph.arcs
 same_arcs (Ok a) j M N view ok err = claim_arcs M N j a ok.0
 same_arcs (Err e) j M N view ok err = ap (λ (X : Machine). X.state.graph.arcs) err
 
-module _ {E : Type 0} (B : Base) (now : List Entry) (r : Result Claim E) (j : ℕ) (M N : Machine) (old new : List Arc) (ok : IfOk r (λ a. IsClaimed M j a N × (new ≡ M.state.graph.arcs))) (err : OnErr r (N ≡ M)) (behind : IsBehind B now N)
+module _ {E : Type 0} (B : Base) (now : List Entry) (r : Result Claim E) (j : ℕ) (M N : Machine) (old new : List Arc) (ok : IfOk r (λ a. IsClaimed M j a N × HasAllIfTook a M.state.graph.arcs new)) (err : OnErr r (N ≡ M)) (behind : IsBehind B now N)
     (view : (new ≡ old) ⊎ (new ≡ M.state.graph.arcs)) where
   pub view_known : (new ≡ old) ⊎ HoldsBehind B now (λ S. new ≡ S.graph.arcs)
   view_known = ⊎_elim inl (λ all. inr (holds B now N (λ S. new ≡ S.graph.arcs) behind (all ∙ sym (same_arcs r j M N new ok err)))) view
@@ -278,7 +278,7 @@ module _ {E : Type 0} (B : Base) (now : List Entry) (r : Result Claim E) (j : �
 
 module _ {g : Ghosts MachineWithRoom Entry} (b : Board) (p : Pass MachineWithRoom Entry g) where
   -- what a pass knows behind its claim
-  claim_known : (view : List Arc) (j : ℕ) (M N : Machine) (a : Claim) → j ≡ number_of p → IsClaimed M j a N → view ≡ M.state.graph.arcs → IsBehind (board_base b) (seen_of p) N → KnowsClaim b p view a
+  claim_known : (view : List Arc) (j : ℕ) (M N : Machine) (a : Claim) → j ≡ number_of p → IsClaimed M j a N → HasAllIfTook a M.state.graph.arcs view → IsBehind (board_base b) (seen_of p) N → KnowsClaim b p view a
   claim_known view j M N (claim.Took m) same claimed all behind =
       let has : HasClaim N.state j m 0 = took M N j m claimed in
       let arcs : N.state.graph.arcs ≡ view = claim_arcs M N j (claim.Took m) claimed ∙ sym all in
@@ -293,7 +293,7 @@ module _ {g : Ghosts MachineWithRoom Entry} (b : Board) (p : Pass MachineWithRoo
   claim_known view j M N (claim.Ended e) same claimed all behind =
       holds (board_base b) (seen_of p) N (λ S. HasEnded S) behind (claim_ended M N j e claimed)
 
-  pub knows_claim : {E : Type 0} (r : Result Claim E) (view : List Arc) (j : ℕ) (M N : Machine) → j ≡ number_of p → IfOk r (λ a. IsClaimed M j a N × (view ≡ M.state.graph.arcs)) → IsBehind (board_base b) (seen_of p) N → IfOk r (λ a. KnowsClaim b p view a)
+  pub knows_claim : {E : Type 0} (r : Result Claim E) (view : List Arc) (j : ℕ) (M N : Machine) → j ≡ number_of p → IfOk r (λ a. IsClaimed M j a N × HasAllIfTook a M.state.graph.arcs view) → IsBehind (board_base b) (seen_of p) N → IfOk r (λ a. KnowsClaim b p view a)
   knows_claim (Ok a) view j M N same ok behind = claim_known view j M N a same ok.0 ok.1 behind
   knows_claim (Err e) view j M N same ok behind = tt
 

@@ -4,6 +4,7 @@ use Rattle.qs_graph.specs.Graphs.{Arc}
 use Rattle.qs_firing.specs.Work.{WorkWithTrees}
 use Rattle.qs_turn.specs.History.{ContinuedByOthers}
 use Rattle.qs_core.specs.declared.answers.Claim.{Claim}
+use Rattle.qs_core.specs.declared.answers.Claim.TheVariants as claim
 use Rattle.qs_core.specs.declared.answers.Put.{Put}
 use Rattle.qs_core.specs.Core.{Base}
 use Rattle.qs_core.specs.Runs.{Machine, IsReplayed}
@@ -18,8 +19,14 @@ pub record Finds (B : Base) (i : ℕ) (seen : List Entry) (M : Machine) : Type 0
   pub replayed : IsReplayed M
   pub others : ContinuedByOthers entry_seat B.seats i seen (history_of M)
 
+-- Where an arc was taken, the view has all of these arcs.
+abbrev pub HasAllIfTook : Claim → List Arc → List Arc → Type 0
+HasAllIfTook (claim.Took m) arcs view = view ≡ arcs
+HasAllIfTook claim.NotYet arcs view = Unit {0}
+HasAllIfTook (claim.Ended e) arcs view = Unit {0}
+
 -- The call finds a machine, gives the answer that it gives to the seat's claim, and leaves what becomes of it. The pass
--- has then seen the history of what is left, and the view has all arcs of the machine found.
+-- has then seen the history of what is left, and where an arc was taken the view has all arcs of the machine found.
 pub record Claims (B : Base) (i : ℕ) (seen : List Entry) (answer : Claim) (now : List Entry) (view : List Arc) : Type 0
   where
     pub found : Machine
@@ -27,7 +34,7 @@ pub record Claims (B : Base) (i : ℕ) (seen : List Entry) (answer : Claim) (now
     pub left : Machine
     pub answered : IsClaimed found i answer left
     pub entered : IsBehind B now left
-    pub all : view ≡ found.state.graph.arcs
+    pub all : HasAllIfTook answer found.state.graph.arcs view
 
 -- The same for the publication of the k-th firing, from 0, of this work, but for the view.
 pub record Publishes (B : Base) (i : ℕ) (seen : List Entry) (work : WorkWithTrees) (k : ℕ) (answer : Put)

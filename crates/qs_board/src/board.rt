@@ -97,8 +97,9 @@ impl Board {
     /// condition here. In what the pass has seen, the view has the first arcs, and the seat has no claim, or its work
     /// on the arc that it has claimed is all done.
     ///
-    /// The view has then all arcs of the machine found; after `Memory` it has these or is unchanged, and nothing was
-    /// entered. What the pass knows of its claim, by the answer, `knows` says. It may wait, also forever.
+    /// Where an arc was taken, the view has then all arcs of the machine found; else it has these or is unchanged, so
+    /// that who finds nothing to do takes no arc along. After `Memory` nothing was entered. What the pass knows of its
+    /// claim, by the answer, `knows` says. It may wait, also forever.
     pub fn claim<R: Wait>(
         &self,
         rt: &R,

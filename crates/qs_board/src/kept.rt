@@ -7,6 +7,7 @@ ghost use Rattle.qs_core.specs.Core.{IsFree, HasClaim};
 ghost use Rattle.qs_core.specs.Runs.{IsReplayed};
 ghost use Rattle.qs_core.specs.Answers.{IsClaimed, IsPublished, IsHalted};
 ghost use Rattle.qs_board.specs.History.{history_of};
+ghost use Rattle.qs_board.specs.Calls.{HasAllIfTook};
 
 use crate::entry::Entry;
 use qs_core::{Claim, Put, State};
@@ -78,7 +79,8 @@ pub(crate) fn entry_at(state: &State, at: usize) -> Option<Entry>
     }
 }
 
-// The seat claims an arc, once the view has all arcs. After `Memory` the machine is as before.
+// The seat claims an arc, once the view has all arcs, if one waits: else the view stays as it was. After `Memory` the
+// machine is as before.
 pub(crate) fn claim_held(
     held: &mut Held<Kept>,
     seat: u32,
@@ -88,12 +90,14 @@ pub(crate) fn claim_held(
     requires seat { seat < held.old.machine.base.seats }
     requires free { IsFree held.old.machine.base held.old.machine.state seat }
     ensures ok { IfOk result (λ a. IsClaimed held.old.machine seat a held.new.machine
-        × (view.new ≡ held.old.machine.state.graph.arcs)) }
+        × HasAllIfTook a held.old.machine.state.graph.arcs view.new) }
     ensures err { OnErr result (held.new.machine ≡ held.old.machine) }
     ensures view { (view.new ≡ view.old) ⊎ (view.new ≡ held.old.machine.state.graph.arcs) }
 {
     let state = &mut held.value().state;
-    state.catch_up(view)?;
+    if state.has_waiting() {
+        state.catch_up(view)?;
+    }
     state.reserve_step()?;
     Ok(state.claim(seat))
 }

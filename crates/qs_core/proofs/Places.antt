@@ -1,5 +1,5 @@
 -- Places in lists of statuses and of firings.
-use Rattle.std.proofs.Common.{◌≡◌, ℕ, zero, suc, ◌≤◌, Bool, true, false, List, [], ◌∷◌, ◌++◌, length, map, set, refl, ap, subst, inl, inr, ⊎_elim, ◌⊎◌, arith, Some, slice_get, eqb, eqb-true, eq-eqb}
+use Rattle.std.proofs.Common.{◌≡◌, ℕ, zero, suc, ◌≤◌, Bool, true, false, List, [], ◌∷◌, ◌++◌, length, map, refl, ap, subst, inl, inr, ⊎_elim, ◌⊎◌, arith, Some, slice_get, eqb, eqb-true, eq-eqb}
 use Rattle.std.specs.Prelude.{if◌then◌else◌}
 use Rattle.qs_tree.specs.Lists.{Ascends}
 use Rattle.qs_tree.proofs.Members.{in_at}

@@ -1,5 +1,5 @@
 -- Runs: what every state keeps is kept behind them, and they are determined, limited and, where they close, complete.
-use Rattle.std.proofs.Common.{◌≡◌, ℕ, zero, suc, ◌+◌, ◌<◌, Bool, true, false, List, [], ◌∷◌, ◌++◌, length, map, set, refl, sym, ◌∙◌, ap, subst, ⊎_elim, arith, Option, Some, None, slice_get, eqb, eqb-true}
+use Rattle.std.proofs.Common.{◌≡◌, ℕ, zero, suc, ◌+◌, Bool, true, false, List, [], ◌∷◌, ◌++◌, length, map, set, refl, sym, ◌∙◌, ap, subst, ⊎_elim, arith, Option, Some, None, slice_get, eqb, eqb-true}
 use Rattle.std.specs.Prelude.{if◌then◌else◌, ◌↔◌}
 use Rattle.qs_tree.proofs.Elements.{exists_at, set_other, set_cases}
 use Rattle.qs_tree.specs.Lists.{◌∈◌}

@@ -1,5 +1,5 @@
 -- A run that is stopped because more firings are needed than the limit.
-use Rattle.std.proofs.Common.{◌≡◌, ℕ, ◌<◌, ◌≤◌, ◌∙◌, Bool, List, length, refl, sym, ap, subst, arith, None, Some, slice_get, ◌∷◌, [], suc, zero}
+use Rattle.std.proofs.Common.{◌≡◌, ℕ, ◌<◌, ◌≤◌, ◌∙◌, Bool, length, refl, sym, ap, subst, arith, None}
 use Rattle.qs_tree.proofs.Elements.{exists_at}
 use Rattle.qs_firing.specs.Work.{WorkWithTrees, IsRightFor}
 use Rattle.qs_core.specs.declared.step.Stop.TheVariants as stop

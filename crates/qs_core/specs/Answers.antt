@@ -28,6 +28,10 @@ HasAnyClaim S i = (m : ℕ) × (k : ℕ) × HasClaim S i m k
 abbrev pub OtherHasClaim : CoreState → ℕ → Type 0
 OtherHasClaim S i = (j : ℕ) × (j ≢ i) × HasAnyClaim S j
 
+-- No stop stands, and an arc waits.
+abbrev pub HasWaiting : CoreState → Type 0
+HasWaiting S = (S.stop ≡ None) × ((m : ℕ) × (slice_get S.status m ≡ Some status.Waiting))
+
 -- Seat i rests where it has a claim; where it has none, no step is made.
 abbrev pub RestsIfClaimed : Machine → ℕ → Machine → Type 0
 RestsIfClaimed M i N =

@@ -8,7 +8,7 @@ ghost use Rattle.qs_core.specs.declared.step.Status.TheVariants as status;
 ghost use Rattle.qs_core.specs.Core.{IsFree, HasClaim, NoneWaits, after_claim, after_rest};
 ghost use Rattle.qs_core.specs.Runs.{with_step};
 ghost use Rattle.qs_core.specs.declared.answers.Put.TheVariants as put;
-ghost use Rattle.qs_core.specs.Answers.{IsClaimed, IsPublished, IsHalted, HasAnyClaim, RestsIfClaimed};
+ghost use Rattle.qs_core.specs.Answers.{IsClaimed, IsPublished, IsHalted, HasAnyClaim, RestsIfClaimed, HasWaiting};
 
 use crate::adding::added_by;
 use crate::answers::{Claim, End, Put};
@@ -31,6 +31,14 @@ impl State {
     {
         self.journal.reserve(1)?;
         Ok(())
+    }
+
+    /// Whether a claim takes an arc: no stop stands, and an arc waits. Nothing changes. Takes no memory.
+    pub fn has_waiting(&mut self) -> bool
+        ensures value { IsTrue result ↔ HasWaiting self.old.machine.state }
+        ensures same { self.new ≡ self.old }
+    {
+        self.stop.is_none() && self.statuses.waiting().is_some()
     }
 
     /// The seat claims an arc. A claim is ready; there is such a seat; and it has no claim, or its work on the arc that

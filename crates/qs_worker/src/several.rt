@@ -21,6 +21,7 @@ use qs_join::joined_by;
 use qs_pattern::Rule;
 use std::alloc::{AllocError, Global};
 use std::sync::Wait;
+use std::sync::atomic::{AtomicU64, Ordering};
 use std::thread;
 use std::thread::Threads;
 
@@ -28,10 +29,18 @@ use std::thread::Threads;
 const MOST_YIELDS: u32 = 64;
 
 // How often, at most, a worker other than the first gives way to other threads behind one of its works.
-const MOST_PAUSE: u32 = 1024;
+const MOST_PAUSE: u32 = 65_536;
+
+// So many times as long is a pause as the one before it, or so many times as short.
+const LONGER: u32 = 8;
 
 // Works are small where the others publish an arc while a worker gives way so often.
 const SMALL: u32 = 16;
+
+// Nobody has seen the end of the run as yet, or somebody has.
+const RUNNING: u64 = 0;
+
+const ENDED: u64 = 1;
 
 // For so many arcs of the start a further thread is worth while.
 const ARCS_EACH: usize = 16;
@@ -39,6 +48,13 @@ const ARCS_EACH: usize = 16;
 // The worker has seen that the run has ended.
 #[derive(Drop)]
 struct Ended;
+
+// What the workers of a run share: the board, and beside it whether one of them has seen the end. Nothing that is
+// proved rests on that: it spares the others their pauses, and each of them sees the end in a turn of its own.
+struct Desk {
+    board: Board,
+    ended: AtomicU64,
+}
 
 // Gives way to other threads so often. How often to do so if there is then still nothing to do: twice as often, up to a
 // bound.
@@ -54,15 +70,26 @@ fn give_way(times: u32) -> u32 {
 }
 
 // How often a worker other than the first gives way behind a work: it paused so often behind the work before, and so
-// many arcs have come since. Where works are small, nearly all of their time is turns, which hold up each other, so it
-// pauses longer and leaves more of them to the first worker; where they take long, it soon makes no pause at all.
+// many arcs have come since. Where works are small, nearly all of their time is turns, which hold up each other, and a
+// worker has to take all arcs along that came meanwhile: so it pauses longer and leaves the works to the first worker.
+// Where they take long, it soon makes no pause at all.
 fn next_pause(pause: u32, come: u32) -> u32 {
     if come <= pause / SMALL {
-        pause / 2
-    } else if pause < MOST_PAUSE {
-        pause * 2 + 1
+        pause / LONGER
+    } else if pause < MOST_PAUSE / LONGER {
+        pause * LONGER + 1
     } else {
-        pause
+        MOST_PAUSE
+    }
+}
+
+// Gives way to other threads so often, or until a worker has seen the end.
+fn pause_for(times: u32, ended: &AtomicU64) {
+    for _ in 0..times {
+        if ended.load(Ordering::SeqCst) == ENDED {
+            return;
+        }
+        thread::yield_now();
     }
 }
 
@@ -167,37 +194,40 @@ fn round<R: Wait, G: Gate>(
     }
 }
 
-// A worker. It returns only once its pass has seen that the run has ended.
+// A worker. It returns only once its pass has seen that the run has ended, and tells the others.
 fn work_on<R: Wait, G: Gate>(
     rt: &R,
     alloc: Global,
     grammar: &Grammar,
-    board: &Board,
+    desk: &Desk,
     gate: &G,
     pass: &mut Pass,
 )
-    requires rules { grammar.now ≡ (board_base board.now).rules }
-    requires limit { (board_base board.now).limit < 2 ^ 32 }
-    requires own { IsSeatOf board.now pass.old }
+    requires rules { grammar.now ≡ (board_base desk.now.board).rules }
+    requires limit { (board_base desk.now.board).limit < 2 ^ 32 }
+    requires own { IsSeatOf desk.now.board pass.old }
     requires new { seen_of pass.old ≡ [] }
-    ensures own { IsSeatOf board.now pass.new }
-    ensures ended { SeesEnd board.now pass.new }
+    ensures own { IsSeatOf desk.now.board pass.new }
+    ensures ended { SeesEnd desk.now.board pass.new }
 {
     let mut view = View::empty(alloc);
     let mut times = 1;
     let mut pause = 0;
     for _ in rt.forever() {
         let seen = view.len();
-        match round(rt, alloc, grammar, board, gate, pass, &mut view) {
+        match round(rt, alloc, grammar, &desk.board, gate, pass, &mut view) {
             Ok(true) => {
                 times = 1;
                 if pass.number() != 0 {
                     pause = next_pause(pause, view.len().saturating_sub(seen));
-                    give_way(pause);
+                    pause_for(pause, &desk.ended);
                 }
             }
             Ok(false) => times = give_way(times),
-            Err(_) => return,
+            Err(_) => {
+                desk.ended.store(ENDED, Ordering::SeqCst);
+                return;
+            }
         }
     }
     unreachable!()
@@ -225,27 +255,28 @@ fn work_beside<R: Threads + Wait + Sync, G: Gate + Sync>(
     rt: &R,
     alloc: Global,
     grammar: &Grammar,
-    board: &Board,
+    desk: &Desk,
     gate: &G,
     threads: usize,
     passes: &mut Vec<Pass>,
 )
-    requires rules { grammar.now ≡ (board_base board.now).rules }
-    requires limit { (board_base board.now).limit < 2 ^ 32 }
-    requires new { All (λ p. IsSeatOf board.now p × (seen_of p ≡ [])) passes.old.items }
+    requires rules { grammar.now ≡ (board_base desk.now.board).rules }
+    requires limit { (board_base desk.now.board).limit < 2 ^ 32 }
+    requires new { All (λ p. IsSeatOf desk.now.board p × (seen_of p ≡ [])) passes.old.items }
     requires some { 1 ≤ threads }
     ensures count { vec_len passes.new ≡ vec_len passes.old }
-    ensures ended { All (λ p. IsSeatOf board.now p × SeesEnd board.now p) passes.new.items }
+    ensures ended { All (λ p. IsSeatOf desk.now.board p × SeesEnd desk.now.board p) passes.new.items }
 {
     thread::for_each_mut(
         rt,
         passes.as_mut_slice(),
         threads,
         &|_: usize, pass: &mut Pass|
-            requires { (grammar.now ≡ (board_base board.now).rules) × ((board_base board.now).limit < 2 ^ 32)
-                × IsSeatOf board.now pass.now × (seen_of pass.now ≡ []) }
-            ensures { IsSeatOf board.entry.now pass.exit.now × SeesEnd board.entry.now pass.exit.now }
-        { work_on(rt, alloc, grammar, board, gate, pass) },
+            requires { (grammar.now ≡ (board_base desk.now.board).rules)
+                × ((board_base desk.now.board).limit < 2 ^ 32)
+                × IsSeatOf desk.now.board pass.now × (seen_of pass.now ≡ []) }
+            ensures { IsSeatOf desk.entry.now.board pass.exit.now × SeesEnd desk.entry.now.board pass.exit.now }
+        { work_on(rt, alloc, grammar, desk, gate, pass) },
     );
 }
 
@@ -324,6 +355,11 @@ pub fn run_together<R: Threads + Wait + Sync, G: Gate + Sync>(
     let rules = grammar.shared_rules()?;
     let (board, mut passes) = Board::open_shared(alloc, rules, start, limit, workers)?;
     let threads = threads_for(rt, workers as usize, start.edges().len());
-    work_beside(rt, alloc, grammar, &board, gate, threads, &mut passes);
+    let desk = Desk {
+        board,
+        ended: AtomicU64::new(RUNNING),
+    };
+    work_beside(rt, alloc, grammar, &desk, gate, threads, &mut passes);
+    let Desk { board, ended: _ } = desk;
     unless_halted(finish(board, passes))
 }

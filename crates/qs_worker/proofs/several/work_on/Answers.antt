@@ -6,6 +6,6 @@ use Rattle.qs_worker.proofs.several.work_on.Goals as goal
 pub loop-init : goal.loop-init
 loop-init g c = record {
   own = c.requires.own;
-  arcs = arcs_first (board_base c.args.board.now) (seen_of c.args.pass.now) c.empty-view.result c.empty-view.ensures;
-  free = free_first (board_base c.args.board.now) (seen_of c.args.pass.now) (number_of c.args.pass.now) c.requires.new;
+  arcs = arcs_first (board_base c.args.desk.now.board) (seen_of c.args.pass.now) c.empty-view.result c.empty-view.ensures;
+  free = free_first (board_base c.args.desk.now.board) (seen_of c.args.pass.now) (number_of c.args.pass.now) c.requires.new;
 }

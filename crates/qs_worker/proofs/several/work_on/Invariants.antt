@@ -5,7 +5,7 @@ use Rattle.qs_worker.proofs.several.work_on.Given as goal
 
 abbrev pub invariant-loop : goal.invariant-loop
 invariant-loop g l = record {
-  own : IsSeatOf l.board l.pass;
-  arcs : SeesArcs l.board l.pass l.view;
-  free : Sees l.board l.pass (λ S. IsFree (board_base l.board) S (number_of l.pass));
+  own : IsSeatOf l.desk.board l.pass;
+  arcs : SeesArcs l.desk.board l.pass l.view;
+  free : Sees l.desk.board l.pass (λ S. IsFree (board_base l.desk.board) S (number_of l.pass));
 }
