@@ -5,9 +5,9 @@ use Rattle.qs_io.specs.declared.device.Source.{Ghosts as SourceFacts}
 use Rattle.qs_io.specs.declared.device.Sink.{Ghosts as SinkFacts}
 use Rattle.qs_io.specs.Devices.{Gives}
 use Rattle.qs_io.specs.Limits.{most_text_bytes}
-use Rattle.qsys.specs.declared.job.Job.{Job}
-use Rattle.qsys.specs.declared.status.Status.{Status}
-use Rattle.qsys.specs.declared.status.Status.TheVariants.{Done, Limit, ReadFault, TooLong, WriteFault, Memory}
+use Rattle.qs_command.specs.declared.job.Job.{Job}
+use Rattle.qs_command.specs.declared.status.Status.{Status}
+use Rattle.qs_command.specs.declared.status.Status.TheVariants.{Done, Limit, ReadFault, TooLong, WriteFault, Memory}
 use Rattle.qsys.specs.Answers.{IsOfWholeText}
 use Rattle.qsys.specs.Calls.{DoesJob, HasCause, IsAnswerOfMade, TellsWriteFaults}
 

@@ -23,18 +23,19 @@ use Rattle.qs_deck.specs.Texts.{deck_text}
 use Rattle.qs_deck.specs.MadeDecks.{first_var, second_var, of_level, level_rule, made_grammar, word_tree, words, made_graph}
 use Rattle.qs_deck.proofs.MadeLemmas.{rule_accepted}
 use Rattle.qs_deck.proofs.DecksAccepted.{deck_accepted}
-use Rattle.qsys.specs.declared.status.Status.{Status}
-use Rattle.qsys.specs.declared.status.Status.TheVariants.{Done, Limit, Refused}
-use Rattle.qsys.specs.declared.job.Command.{Command}
-use Rattle.qsys.specs.declared.job.Command.TheVariants as command
-use Rattle.qsys.specs.declared.job.Job.{Job}
-use Rattle.qsys.specs.Texts.{refusal_line}
-use Rattle.qsys.specs.Defined.{IsDefined, of_refused, of_deck, of_made, of_refused_phrases, of_phrases, ReadsDeck, IsDone, IsMadeOf, status_of, summary}
-use Rattle.qsys.proofs.Outcomes.{some_outcome}
-use Rattle.qsys.proofs.Tellings.{some_explained}
-use Rattle.qsys.proofs.LevelsTold.{some_telling}
-use Rattle.qsys.proofs.PhrasesTold.{lines_some, some_phrases}
-use Rattle.qsys.proofs.PhraseRuns.{phrases_accepted}
+use Rattle.qs_command.specs.declared.status.Status.{Status}
+use Rattle.qs_command.specs.declared.status.Status.TheVariants.{Done, Limit, Refused}
+use Rattle.qs_command.specs.declared.job.Command.{Command}
+use Rattle.qs_command.specs.declared.job.Command.TheVariants as command
+use Rattle.qs_command.specs.declared.job.Job.{Job}
+use Rattle.qs_telling.specs.Texts.{refusal_line}
+use Rattle.qs_telling.specs.Summaries.{summary}
+use Rattle.qs_telling.proofs.Outcomes.{some_outcome}
+use Rattle.qs_telling.proofs.Tellings.{some_explained}
+use Rattle.qs_telling.proofs.LevelsTold.{some_telling}
+use Rattle.qs_telling.proofs.PhrasesTold.{lines_some, some_phrases}
+use Rattle.qs_telling.proofs.PhraseRuns.{phrases_accepted}
+use Rattle.qsys.specs.Defined.{IsDefined, of_refused, of_deck, of_made, of_refused_phrases, of_phrases, ReadsDeck, IsDone, IsMadeOf, status_of}
 
 -- a text means a deck or is refused
 abbrev pub SomeAnswer : Type 0

@@ -13,14 +13,14 @@ use Rattle.qs_deck.specs.Refusals.{IsRefusalOf}
 use Rattle.qs_deck.specs.PhraseTexts.{IsPhraseText, IsPhraseFault}
 use Rattle.qs_lex.specs.Refusals.{IsRefusedFor}
 use Rattle.qs_tree.specs.declared.cell.Label.{Label}
-use Rattle.qsys.specs.Texts.{refusal_line}
-use Rattle.qsys.specs.declared.job.Command.{Command}
-use Rattle.qsys.specs.declared.job.Command.TheVariants as command
-use Rattle.qsys.specs.declared.job.Job.{Job}
-use Rattle.qsys.specs.declared.status.Status.{Status}
-use Rattle.qsys.specs.declared.status.Status.TheVariants.{Done, Refused}
-use Rattle.qsys.specs.LevelTexts.{TellsLevels}
-use Rattle.qsys.specs.declared.telling.Telling.TheVariants as telling
+use Rattle.qs_command.specs.declared.job.Command.{Command}
+use Rattle.qs_command.specs.declared.job.Command.TheVariants as command
+use Rattle.qs_command.specs.declared.job.Job.{Job}
+use Rattle.qs_command.specs.declared.status.Status.{Status}
+use Rattle.qs_command.specs.declared.status.Status.TheVariants.{Done, Refused}
+use Rattle.qs_telling.specs.Texts.{refusal_line}
+use Rattle.qs_telling.specs.LevelTexts.{TellsLevels}
+use Rattle.qs_telling.specs.declared.telling.Telling.TheVariants as telling
 use Rattle.qsys.specs.Defined.{IsDefined, of_refused, of_deck, of_refused_phrases, of_phrases, IsDone, ReadsDeck, status_of}
 use Rattle.qsys.specs.Answers.{BeginsDone, WritesFirstBlocks}
 use Rattle.qsys.specs.Answers as answers

@@ -2,9 +2,9 @@
 use Rattle.std.proofs.Common.{◌≡◌, ◌⊎◌, ◌<◌, ◌≤◌, ℕ, List, [], ◌++◌, length, Option, Some, ap, subst, sym, ◌∙◌, inl, inr, refl, arith}
 use Rattle.qs_io.specs.Devices.{HasRisen}
 use Rattle.qs_io.specs.Limits.{most_text_bytes}
-use Rattle.qsys.specs.declared.job.Job.{Job}
-use Rattle.qsys.specs.declared.status.Status.{Status}
-use Rattle.qsys.specs.declared.status.Status.TheVariants.{Done, Usage, Refused, Limit, ReadFault, TooLong, WriteFault, Memory}
+use Rattle.qs_command.specs.declared.job.Job.{Job}
+use Rattle.qs_command.specs.declared.status.Status.{Status}
+use Rattle.qs_command.specs.declared.status.Status.TheVariants.{Done, Usage, Refused, Limit, ReadFault, TooLong, WriteFault, Memory}
 use Rattle.qsys.specs.Answers.{EndsAsDefined, EndsAsGiven, WritesDefined}
 
 -- what is defined for the bytes of the run is what is defined for all that was given

@@ -1,45 +1,24 @@
 -- What the grammar of a made deck leaves is what is told of it.
-use Rattle.std.proofs.Common.{◌≡◌, ◌⊎◌, ℕ, ◌^◌, ◌≤◌, List, [], ◌∷◌, Option, Global, length, map, get_or, refl, sym, ◌∙◌, ap, subst, inl, inr, ⊎_elim, arith}
+use Rattle.std.proofs.Common.{◌≡◌, ◌⊎◌, ℕ, List, [], ◌∷◌, Option, Global, refl, sym, ◌∙◌, subst, inl, inr, ⊎_elim}
 use Rattle.std.specs.Prelude.{Result, Ok, Err, IfOk}
 use Rattle.std.specs.declared.vec.Vec.{Vec}
 use Rattle.std.specs.Io.KnownBytes.{append_known}
-use Rattle.std.proofs.Math.Pow.{pow_mono}
-use Rattle.std.proofs.lemmas.List.FromFn.{length-map-range_with_len}
 use Rattle.qs_io.specs.Devices.{AppendsProperPrefix}
-use Rattle.qs_graph.specs.Graphs.{QGraph}
-use Rattle.qs_graph.proofs.Lines.{length-chain}
 use Rattle.qs_clean.specs.Cascades.{Cascade, a_graph, no_arc, over, all_done, by_limit, no_more, limit, empty, goes_on}
 use Rattle.qs_cascade.specs.declared.stages.StageEnd.{StageEnd}
 use Rattle.qs_cascade.specs.declared.stages.StageEnd.TheVariants as end
 use Rattle.qs_cascade.specs.Stages.{IsStageEnd}
-use Rattle.qs_deck.specs.declared.system.System.{System}
-use Rattle.qs_deck.specs.Decks.{Grammar, grammar_of}
-use Rattle.qs_deck.specs.MadeDecks.{made_grammar, made_graph, word_tree, words}
-use Rattle.qsys.specs.declared.job.Command.TheVariants as command
-use Rattle.qsys.specs.declared.job.Job.{Job}
-use Rattle.qsys.specs.declared.status.Status.{Status}
-use Rattle.qsys.specs.declared.status.Status.TheVariants.{Done, Limit}
+use Rattle.qs_deck.specs.MadeDecks.{made_grammar, made_graph}
+use Rattle.qs_command.specs.declared.job.Command.TheVariants as command
+use Rattle.qs_command.specs.declared.job.Job.{Job}
+use Rattle.qs_command.specs.declared.status.Status.{Status}
+use Rattle.qs_command.specs.declared.status.Status.TheVariants.{Done, Limit}
+use Rattle.qs_telling.specs.Ends.{left_of}
+use Rattle.qs_telling.specs.Summaries.{summary}
 use Rattle.qsys.specs.Answers.{WritesDefined, WritesProperPrefix, EndsAsDefined}
 use Rattle.qsys.specs.working.Cascading.{IsWritten}
-use Rattle.qsys.specs.working.Ends.{left_of, ending_of}
-use Rattle.qsys.specs.Defined.{IsDefined, of_made, IsMadeOf, status_of, summary}
-
--- the made graph is small
-pub made_arcs : (k : ℕ) (graph : QGraph) → k ≤ 13 → graph ≡ made_graph k → length graph.arcs ≤ 8192
-made_arcs k graph low is =
-    omega (arith, ap (λ (G : QGraph). length G.arcs) is, length-chain 1 (map (word_tree k) (words k)) 3 2, length-map-range_with_len (word_tree k) 1 (2 ^ k), pow_mono low)
-
-pub made_nodes : (k : ℕ) (graph : QGraph) → k ≤ 13 → graph ≡ made_graph k → graph.nodes ≤ 8194
-made_nodes k graph low is = omega (arith, ap (λ (G : QGraph). G.nodes) is, length-map-range_with_len (word_tree k) 1 (2 ^ k), pow_mono low)
-
--- the one grammar
-pub only_grammar : (systems : List System) (grammar : Grammar) (system : System) → map grammar_of systems ≡ grammar ∷ [] → system ≡ get_or systems 0 system → grammar_of system ≡ grammar
-only_grammar [] grammar system same is = absurd (omega (arith, ap length same))
-only_grammar (first ∷ others) grammar system same is = ap grammar_of is ∙ ap (λ grammars. get_or grammars 0 grammar) same
-
-pub some_grammar : (systems : List System) (grammar : Grammar) → map grammar_of systems ≡ grammar ∷ [] → 1 ≤ length systems
-some_grammar [] grammar same = absurd (omega (arith, ap length same))
-some_grammar (first ∷ others) grammar same = omega arith
+use Rattle.qsys.specs.working.Ends.{ending_of}
+use Rattle.qsys.specs.Defined.{IsDefined, of_made, IsMadeOf, status_of}
 
 -- what it leaves
 made_ended : (L size : ℕ) (e : StageEnd) → IsStageEnd (made_grammar size).rules (made_graph size) L e → IsMadeOf L size (summary L size (left_of e)) (status_of (ending_of e))

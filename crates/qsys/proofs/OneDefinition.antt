@@ -12,20 +12,21 @@ use Rattle.qs_deck.specs.Refusals.{IsRefusalOf}
 use Rattle.qs_deck.specs.PhraseTexts.{IsPhraseText, IsPhraseFault}
 use Rattle.qs_lex.specs.Refusals.{IsRefusedFor}
 use Rattle.qs_tree.specs.declared.cell.Label.{Label}
-use Rattle.qsys.specs.declared.status.Status.{Status}
-use Rattle.qsys.specs.declared.job.Command.{Command}
-use Rattle.qsys.specs.declared.job.Command.TheVariants as command
-use Rattle.qsys.specs.declared.job.Job.{Job}
-use Rattle.qsys.specs.Texts.{refusal_line}
-use Rattle.qsys.specs.Outcomes.{IsOutcome}
+use Rattle.qs_command.specs.declared.status.Status.{Status}
+use Rattle.qs_command.specs.declared.job.Command.{Command}
+use Rattle.qs_command.specs.declared.job.Command.TheVariants as command
+use Rattle.qs_command.specs.declared.job.Job.{Job}
+use Rattle.qs_telling.specs.Texts.{refusal_line}
+use Rattle.qs_telling.specs.Outcomes.{IsOutcome}
 use Rattle.qs_deck.specs.MadeDecks.{made_grammar, made_graph}
-use Rattle.qsys.specs.Defined.{IsDefined, of_refused, of_deck, of_made, of_refused_phrases, of_phrases, IsDone, IsMadeOf, IsPhraseAnswer, ReadsDeck, status_of, summary}
+use Rattle.qs_telling.specs.Summaries.{summary}
+use Rattle.qs_telling.proofs.Tellings.{one_explanation}
+use Rattle.qs_telling.specs.PhraseTexts.{TellsPhrases}
+use Rattle.qs_telling.proofs.LevelsTold.{one_telling}
+use Rattle.qs_telling.proofs.PhrasesTold.{one_phrases}
+use Rattle.qsys.specs.Defined.{IsDefined, of_refused, of_deck, of_made, of_refused_phrases, of_phrases, IsDone, IsMadeOf, IsPhraseAnswer, ReadsDeck, status_of}
 use Rattle.qsys.specs.Answers.{KeepsToBlocks}
 use Rattle.qsys.specs.working.Cascading.{KeepsToDefined}
-use Rattle.qsys.proofs.Tellings.{one_explanation}
-use Rattle.qsys.specs.PhraseTexts.{TellsPhrases}
-use Rattle.qsys.proofs.LevelsTold.{one_telling}
-use Rattle.qsys.proofs.PhrasesTold.{one_phrases}
 
 -- a cascade has one outcome
 abbrev pub OneOutcome : Type 0

@@ -7,17 +7,18 @@ use Rattle.qs_tree.specs.Lists.{◌∈◌}
 use Rattle.qs_io.specs.Devices.{AppendsProperPrefix}
 use Rattle.qs_clean.specs.Cascades.{Ending, all_done, by_limit}
 use Rattle.qs_deck.specs.Decks.{Grammar}
-use Rattle.qsys.specs.declared.status.Status.{Status}
-use Rattle.qsys.specs.declared.status.Status.TheVariants.{Memory, WriteFault}
-use Rattle.qsys.specs.declared.phrasing.LineEnd.{LineEnd}
-use Rattle.qsys.specs.declared.phrasing.LineEnd.TheVariants as end
+use Rattle.qs_command.specs.declared.status.Status.{Status}
+use Rattle.qs_command.specs.declared.status.Status.TheVariants.{Memory, WriteFault}
+use Rattle.qs_telling.specs.declared.phrasing.LineEnd.{LineEnd}
+use Rattle.qs_telling.specs.declared.phrasing.LineEnd.TheVariants as end
+use Rattle.qs_telling.specs.Cascading.{AreAccepted}
+use Rattle.qs_telling.specs.PhraseTexts.{TellsPhrases, BeginsPhrases, no_line, line_first, no_block, block_first, either_by_limit, phrase_line}
+use Rattle.qs_telling.specs.Phrasing.{IsBlockOf, ending_in}
+use Rattle.qs_telling.proofs.PhrasesTold.{some_phrases, phrases_some}
 use Rattle.qsys.specs.Defined.{status_of}
-use Rattle.qsys.specs.Cascading.{AreAccepted}
-use Rattle.qsys.specs.PhraseTexts.{TellsPhrases, BeginsPhrases, no_line, line_first, no_block, block_first, either_by_limit, phrase_line}
 use Rattle.qsys.specs.working.Cascading.{DeliversBlocks, HasCome}
-use Rattle.qsys.specs.working.Phrasing.{IsBlockOf, TellsOthers, ending_in, status_with}
+use Rattle.qsys.specs.working.Phrasing.{TellsOthers, status_with}
 use Rattle.qsys.proofs.GoingOn.{nothing_more, come_further, out_of_memory, sink_failed, all_written}
-use Rattle.qsys.proofs.PhrasesTold.{some_phrases, phrases_some}
 
 -- the line at a place, and those behind it
 pub at_line : (lines : List (List Label)) (i : ℕ) (words : List Label) → slice_get lines i ≡ Some words → drop i lines ≡ words ∷ drop (i + 1) lines

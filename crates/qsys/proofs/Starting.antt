@@ -8,7 +8,7 @@ use Rattle.qs_deck.specs.declared.system.System.{System}
 use Rattle.qs_deck.specs.WrittenDecks.{WrittenDeck}
 use Rattle.qs_deck.specs.Decks.{Grammar, grammar_of, meaning_of, IsDeckOf}
 use Rattle.qs_deck.proofs.DecksAccepted.{trees_on_arcs}
-use Rattle.qsys.specs.working.Cascading.{CanGoOn}
+use Rattle.qs_telling.specs.working.Cascading.{CanGoOn}
 use Rattle.qsys.proofs.NodesFew.{nodes_few}
 
 module _ {bytes : List ℕ} {version : ℕ} {names : List (List ℕ)} {grammars : List Grammar} {graph : QGraph} (is : IsDeckOf bytes version names grammars graph) where

@@ -8,15 +8,15 @@ use Rattle.qs_graph.specs.Graphs.{QGraph}
 use Rattle.qs_tree.specs.declared.cell.Label.{Label}
 use Rattle.qs_deck.specs.Decks.{Grammar, IsDeckOf}
 use Rattle.qs_deck.specs.PhraseTexts.{IsPhraseText}
-use Rattle.qsys.specs.declared.job.Command.{Command}
-use Rattle.qsys.specs.declared.job.Command.TheVariants as command
-use Rattle.qsys.specs.declared.job.Job.{Job}
-use Rattle.qsys.specs.declared.status.Status.{Status}
-use Rattle.qsys.specs.declared.status.Status.TheVariants.{Done, Usage, Refused, Limit, ReadFault, TooLong, WriteFault}
-use Rattle.qsys.specs.declared.status.Status.TheVariants.{Memory}
-use Rattle.qsys.specs.Outcomes.{BeginsOutcome}
-use Rattle.qsys.specs.Explanations.{BeginsExplanation}
-use Rattle.qsys.specs.PhraseTexts.{BeginsPhrases}
+use Rattle.qs_command.specs.declared.job.Command.{Command}
+use Rattle.qs_command.specs.declared.job.Command.TheVariants as command
+use Rattle.qs_command.specs.declared.job.Job.{Job}
+use Rattle.qs_command.specs.declared.status.Status.{Status}
+use Rattle.qs_command.specs.declared.status.Status.TheVariants.{Done, Usage, Refused, Limit, ReadFault, TooLong}
+use Rattle.qs_command.specs.declared.status.Status.TheVariants.{WriteFault, Memory}
+use Rattle.qs_telling.specs.Outcomes.{BeginsOutcome}
+use Rattle.qs_telling.specs.Explanations.{BeginsExplanation}
+use Rattle.qs_telling.specs.PhraseTexts.{BeginsPhrases}
 use Rattle.qsys.specs.Defined.{IsDefined}
 
 -- The whole text that is defined for these bytes, with this status, was written.

@@ -6,12 +6,12 @@ use Rattle.qs_io.specs.declared.device.Source.{Ghosts as SourceFacts}
 use Rattle.qs_io.specs.declared.device.Sink.{Ghosts as SinkFacts}
 use Rattle.qs_io.specs.Devices.{AppendsProperPrefix, Gives, HasRisen, TakesBytes}
 use Rattle.qs_io.specs.Limits.{most_text_bytes}
-use Rattle.qsys.specs.declared.job.Job.{Job}
-use Rattle.qsys.specs.declared.job.Command.TheVariants.{Made}
-use Rattle.qsys.specs.declared.status.Status.{Status}
-use Rattle.qsys.specs.declared.status.Status.TheVariants.{Usage, Refused, ReadFault, TooLong, WriteFault, Memory}
-use Rattle.qsys.specs.Texts.{usage_line}
-use Rattle.qsys.specs.Words.{AreRefused}
+use Rattle.qs_command.specs.declared.job.Job.{Job}
+use Rattle.qs_command.specs.declared.job.Command.TheVariants.{Made}
+use Rattle.qs_command.specs.declared.status.Status.{Status}
+use Rattle.qs_command.specs.declared.status.Status.TheVariants.{Usage, Refused, ReadFault, TooLong, WriteFault, Memory}
+use Rattle.qs_command.specs.Words.{AreRefused}
+use Rattle.qsys.specs.Usage.{usage_line}
 use Rattle.qsys.specs.Defined.{Reads}
 use Rattle.qsys.specs.Answers.{EndsAsGiven, IsOfWholeText, WritesDefined}
 

@@ -1,27 +1,28 @@
 -- What a job is defined to write, for the bytes that it read where it reads, and with which status it is to end. This
 -- project's own.
-use Rattle.std.specs.Prelude.{◌≡◌, ℕ, ◌^◌, List, [], ◌∷◌, length}
+use Rattle.std.specs.Prelude.{◌≡◌, ℕ, List, [], ◌∷◌}
 use Rattle.qs_tree.specs.declared.cell.Label.{Label}
 use Rattle.qs_lex.specs.declared.refusal.Refusal.{Refusal}
 use Rattle.qs_lex.specs.Refusals.{IsRefusedFor}
 use Rattle.qs_graph.specs.Graphs.{QGraph}
 use Rattle.qs_graphtext.specs.Texts.{graph_text}
-use Rattle.qs_clean.specs.Cascades.{Cascade, Left, a_graph, no_arc, over, Ending, all_done, by_limit}
+use Rattle.qs_clean.specs.Cascades.{Cascade, Left, Ending, all_done, by_limit}
 use Rattle.qs_deck.specs.Decks.{Grammar, IsDeckOf}
 use Rattle.qs_deck.specs.Refusals.{IsRefusalOf}
 use Rattle.qs_deck.specs.PhraseTexts.{IsPhraseText, IsPhraseFault}
 use Rattle.qs_deck.specs.Texts.{deck_text}
 use Rattle.qs_deck.specs.MadeDecks.{made_grammar, made_graph}
-use Rattle.qsys.specs.declared.job.Command.{Command}
-use Rattle.qsys.specs.declared.job.Command.TheVariants as command
-use Rattle.qsys.specs.declared.job.Job.{Job}
-use Rattle.qsys.specs.declared.status.Status.{Status}
-use Rattle.qsys.specs.declared.status.Status.TheVariants.{Done, Refused, Limit}
-use Rattle.qsys.specs.Texts.{refusal_line, summary_line, limit_line}
-use Rattle.qsys.specs.Outcomes.{IsOutcome}
-use Rattle.qsys.specs.Explanations.{Explains}
-use Rattle.qsys.specs.LevelTexts.{TellsLevels}
-use Rattle.qsys.specs.PhraseTexts.{TellsPhrases}
+use Rattle.qs_command.specs.declared.job.Command.{Command}
+use Rattle.qs_command.specs.declared.job.Command.TheVariants as command
+use Rattle.qs_command.specs.declared.job.Job.{Job}
+use Rattle.qs_command.specs.declared.status.Status.{Status}
+use Rattle.qs_command.specs.declared.status.Status.TheVariants.{Done, Refused, Limit}
+use Rattle.qs_telling.specs.Texts.{refusal_line}
+use Rattle.qs_telling.specs.Outcomes.{IsOutcome}
+use Rattle.qs_telling.specs.Summaries.{summary}
+use Rattle.qs_telling.specs.Explanations.{Explains}
+use Rattle.qs_telling.specs.LevelTexts.{TellsLevels}
+use Rattle.qs_telling.specs.PhraseTexts.{TellsPhrases}
 
 -- A cascade that met the limit gives the status Limit, any other one Done.
 abbrev pub status_of : Ending → Status
@@ -118,12 +119,6 @@ pub record IsAnswer (job : Job) (bytes text : List ℕ) (status : Status) : Type
   pub graph : QGraph
   pub deck : IsDeckOf bytes version names grammars graph
   pub done : IsDone job.command job.limit version names grammars graph text status
-
--- What is told of a made deck, by what its grammar leaves of its graph: the summary, or that the limit was met.
-abbrev pub summary : ℕ → ℕ → Left → List ℕ
-summary limit size (a_graph firings graph) = summary_line size (2 ^ size) firings (length graph.arcs)
-summary limit size (no_arc firings) = summary_line size (2 ^ size) firings 0
-summary limit size over = limit_line limit
 
 -- The command `made` runs the grammar of the made deck of a size on its graph, and tells what is left.
 pub record IsMadeOf (limit size : ℕ) (text : List ℕ) (status : Status) : Type 0 where

@@ -1,14 +1,5 @@
-pub mod Texts
-pub mod Outcomes
-pub mod Explanations
-pub mod LevelTexts
-pub mod PhraseTexts
-pub mod Pieces
+pub mod Usage
 pub mod Defined
-pub mod Limits
-pub mod Words
 pub mod Answers
 pub mod Calls
-pub mod Statuses
-pub mod Cascading
 pub mod working

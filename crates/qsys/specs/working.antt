@@ -1,7 +1,4 @@
 -- Working definitions: private functions and proofs need them, and no public contract cites one.
 pub mod Ends
-pub mod Named
-pub mod Telling
-pub mod Options
 pub mod Cascading
 pub mod Phrasing

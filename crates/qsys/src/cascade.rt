@@ -3,17 +3,18 @@
 ghost use Rattle.std.specs.Prelude.{length, map};
 ghost use Rattle.qs_deck.specs.Decks.{grammar_of};
 ghost use Rattle.qs_deck.specs.Named.{AreSystemsNamed};
-ghost use Rattle.qsys.specs.Words.{IsLimit};
+ghost use Rattle.qs_command.specs.Limits.{IsLimit};
+ghost use Rattle.qs_telling.specs.Cascading.{AreAccepted};
+ghost use Rattle.qs_telling.specs.working.Cascading.{CanGoOn};
 ghost use Rattle.qsys.specs.Calls.{TellsWriteFaults};
-ghost use Rattle.qsys.specs.Cascading.{AreAccepted};
-ghost use Rattle.qsys.specs.working.Cascading.{CanGoOn, DeliversCascade};
+ghost use Rattle.qsys.specs.working.Cascading.{DeliversCascade};
 
-use crate::status::Status;
-use crate::telling::{Teller, Told};
 use qs_cascade::StageEnd;
+use qs_command::Status;
 use qs_deck::System;
 use qs_graph::Graph;
 use qs_io::{Sink, write_all};
+use qs_telling::{Teller, Told};
 use qs_worker::Crew;
 use std::alloc::Global;
 

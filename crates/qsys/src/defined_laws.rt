@@ -1,25 +1,13 @@
-//! Laws of outcomes and of what is defined, over their definitions alone.
+//! A law of what is defined, over its definition alone.
 
 ghost use Rattle.std.specs.Prelude.{◌≡◌, ℕ, List};
-ghost use Rattle.qs_graph.specs.Graphs.{QGraph};
-ghost use Rattle.qs_clean.specs.Cascades.{Ending};
-ghost use Rattle.qs_deck.specs.Decks.{Grammar};
-ghost use Rattle.qsys.specs.declared.job.Job.{Job};
-ghost use Rattle.qsys.specs.declared.status.Status.{Status};
-ghost use Rattle.qsys.specs.Outcomes.{IsOutcome};
+ghost use Rattle.qs_command.specs.declared.job.Job.{Job};
+ghost use Rattle.qs_command.specs.declared.status.Status.{Status};
 ghost use Rattle.qsys.specs.Defined.{IsDefined};
 
 use qs_clean::laws::one_cascade;
 use qs_deck::laws::{one_answer, one_phrase_text};
-
-/// A cascade has one text and one ending.
-pub fn one_outcome()
-    ensures { (limit : ℕ) (names : List (List ℕ)) (graph : QGraph) (grammars : List Grammar) (t u : List ℕ)
-        (e d : Ending)
-        → IsOutcome limit names graph grammars t e → IsOutcome limit names graph grammars u d → (t ≡ u) × (e ≡ d) }
-{
-    one_cascade();
-}
+use qs_telling::laws::one_outcome;
 
 /// For each job and all bytes one text is defined, with one status.
 pub fn one_definition()

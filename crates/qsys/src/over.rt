@@ -3,15 +3,15 @@
 ghost use Rattle.std.specs.Prelude.{◌≡◌, ◌⊎◌, [], ◌≤◌, Some, IsTrue, length, map};
 ghost use Rattle.std.specs.String.{string_bytes};
 ghost use Rattle.qs_io.specs.Limits.{most_text_bytes};
-ghost use Rattle.qsys.specs.declared.job.Job.{Job};
-ghost use Rattle.qsys.specs.declared.job.Command.TheVariants.{Made};
-ghost use Rattle.qsys.specs.Words.{IsJobOf, AreRefused};
+ghost use Rattle.qs_command.specs.declared.job.Job.{Job};
+ghost use Rattle.qs_command.specs.declared.job.Command.TheVariants.{Made};
+ghost use Rattle.qs_command.specs.Words.{IsJobOf, AreRefused};
 ghost use Rattle.qsys.specs.Defined.{Reads};
 ghost use Rattle.qsys.specs.Answers.{EndsAsDefined, IsOfWholeText, WritesDefined};
 ghost use Rattle.qsys.specs.Calls.{AnswersWords, IsAnswerOfMade, TellsReadFaults, TellsWriteFaults, WritesUsage};
 
-use crate::status::Status;
 use crate::top::{qsys, write_usage};
+use qs_command::Status;
 use qs_io::{OpenGate, StdSink, StdSource, TracedSink};
 use std::alloc::Global;
 use std::io::{Read, Write};

@@ -6,15 +6,16 @@ ghost use Rattle.qs_tree.specs.declared.cell.Label.{Label};
 ghost use Rattle.qs_deck.specs.Limits.{most_systems};
 ghost use Rattle.qs_deck.specs.Decks.{grammar_of};
 ghost use Rattle.qs_deck.specs.Named.{AreSystemsNamed};
-ghost use Rattle.qsys.specs.Words.{IsLimit};
+ghost use Rattle.qs_command.specs.Limits.{IsLimit};
+ghost use Rattle.qs_telling.specs.Cascading.{AreAccepted};
+ghost use Rattle.qs_telling.specs.Phrasing.{AreReady};
 ghost use Rattle.qsys.specs.Calls.{TellsWriteFaults};
-ghost use Rattle.qsys.specs.Cascading.{AreAccepted};
-ghost use Rattle.qsys.specs.working.Phrasing.{AreReady, DeliversPhrases, status_with};
+ghost use Rattle.qsys.specs.working.Phrasing.{DeliversPhrases, status_with};
 
-use crate::phrasing::{LineEnd, PhraseTeller};
-use crate::status::Status;
+use qs_command::Status;
 use qs_deck::WordLines;
 use qs_io::{Sink, write_all};
+use qs_telling::{LineEnd, PhraseTeller};
 use qs_worker::Crew;
 use std::alloc::Global;
 

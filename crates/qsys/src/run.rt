@@ -6,25 +6,23 @@ ghost use Rattle.qs_io.specs.Limits.{most_text_bytes};
 ghost use Rattle.qs_deck.specs.Decks.{grammar_of, IsDeckOf};
 ghost use Rattle.qs_deck.specs.Texts.{deck_text};
 ghost use Rattle.qs_worker.specs.Crews.{CanRunOn};
-ghost use Rattle.qsys.specs.Words.{IsLimit};
+ghost use Rattle.qs_command.specs.Limits.{IsLimit};
 ghost use Rattle.qsys.specs.Defined.{Reads, ReadsDeck, IsForOneWorker};
 ghost use Rattle.qsys.specs.Answers.{EndsAsDefined, IsOfWholeText};
 ghost use Rattle.qsys.specs.Calls.{DoesJob, HasCause, TellsWriteFaults};
 ghost use Rattle.qsys.specs.working.Cascading.{DeliversCascade, IsAnswered, IsWritten};
 
 use crate::cascade::cascade;
-use crate::job::{Command, Job};
-use crate::levels::levels_text;
+use crate::endings::status_of;
 use crate::phrases::phrases;
-use crate::phrasing::{PhraseTeller, grammars_of};
-use crate::refusals::refusal_line;
-use crate::status::Status;
-use crate::summaries::{made_end, status_of, summary};
-use crate::telling::{Teller, Telling};
+use qs_command::{Command, Job, Status};
 use qs_deck::{Deck, DeckEnd, read_deck, read_phrases, write_deck};
 use qs_graph::Graph;
 use qs_graphtext::write_graph;
 use qs_io::{Gate, ReadEnd, Sink, Source, read_all, write_all};
+use qs_telling::{
+    PhraseTeller, Teller, Telling, grammars_of, levels_text, made_end, refusal_line, summary,
+};
 use qs_worker::{ByCall, Crew, Grammar, OneWorker, run_together};
 use std::alloc::{AllocError, Global};
 use std::sync::Wait;

@@ -2,16 +2,14 @@
 
 ghost use Rattle.std.specs.Prelude.{◌≡◌, ◌≢◌, ◌↔◌, ℕ, List, Some, IsTrue, map};
 ghost use Rattle.std.specs.String.{string_bytes};
-ghost use Rattle.qsys.specs.declared.job.Job.{Job};
-ghost use Rattle.qsys.specs.Words.{IsInRange, IsJobOf, AreRefused};
+ghost use Rattle.qs_command.specs.declared.job.Job.{Job};
+ghost use Rattle.qs_command.specs.Words.{IsInRange, IsJobOf, AreRefused};
 ghost use Rattle.qsys.specs.Defined.{IsForOneWorker};
 ghost use Rattle.qsys.specs.Answers.{EndsAsDefined};
 ghost use Rattle.qsys.specs.Calls.{AnswersWords, DoesJob, HasCause, TellsWriteFaults, WritesUsage};
 
-use crate::job::{Command, Job};
 use crate::run::{run_still, run_with};
-use crate::status::Status;
-use crate::words::{WordsEnd, read_words};
+use qs_command::{Command, Job, Status, WordsEnd, read_words};
 use qs_io::{Gate, Sink, Source, write_all};
 use std::alloc::Global;
 use std::sync::Wait;

@@ -1,20 +1,19 @@
 -- How far a run has come, and what it answers. `run_still` is proved against `Answers`, and not against this.
-use Rattle.std.specs.Prelude.{◌≡◌, ◌⊎◌, ℕ, ◌+◌, ◌*◌, ◌≤◌, List, ◌++◌, length, Option, Result, Ok, Err}
+use Rattle.std.specs.Prelude.{◌≡◌, ◌⊎◌, ℕ, List, ◌++◌, Option, Result, Ok, Err}
 use Rattle.std.proofs.Common.{Global}
 use Rattle.std.specs.declared.vec.Vec.{Vec}
 use Rattle.std.specs.Io.KnownBytes.{append_known}
-use Rattle.qs_graph.specs.Graphs.{QGraph, IsValid}
-use Rattle.qs_graphtext.specs.Texts.{AreArcsNamed}
+use Rattle.qs_graph.specs.Graphs.{QGraph}
 use Rattle.qs_io.specs.Devices.{AppendsProperPrefix}
 use Rattle.qs_clean.specs.Cascades.{Ending}
 use Rattle.qs_deck.specs.Decks.{Grammar}
-use Rattle.qsys.specs.declared.job.Job.{Job}
-use Rattle.qsys.specs.declared.status.Status.{Status}
-use Rattle.qsys.specs.declared.status.Status.TheVariants.{WriteFault, Memory}
-use Rattle.qsys.specs.declared.telling.Telling.{Telling}
+use Rattle.qs_command.specs.declared.job.Job.{Job}
+use Rattle.qs_command.specs.declared.status.Status.{Status}
+use Rattle.qs_command.specs.declared.status.Status.TheVariants.{WriteFault, Memory}
+use Rattle.qs_telling.specs.declared.telling.Telling.{Telling}
+use Rattle.qs_telling.specs.working.Telling.{Begins, Tells}
 use Rattle.qsys.specs.Defined.{IsDefined, status_of}
 use Rattle.qsys.specs.Answers.{KeepsToBlocks, WritesProperPrefix}
-use Rattle.qsys.specs.working.Telling.{Begins, Tells}
 
 -- Of a text that is to be written with this status, all was written, and the answer is the status; or a proper
 -- prefix, and the answer is that the sink failed.
@@ -69,14 +68,6 @@ pub record DeliversDefined (job : Job) (bytes : List ℕ) (old new : Option (Lis
 abbrev pub IsAnswered : Job → List ℕ → Option (List ℕ) → Option (List ℕ) → Status → Type 0
 IsAnswered job bytes old new answer =
     ((answer ≡ Memory) × KeepsToBlocks job bytes old new) ⊎ DeliversDefined job bytes old new answer
-
--- A valid graph on which so many grammars can still be run: its labels are named, and there is room for 16,000,000
--- arcs and nodes more for each of the grammars, which is 16 for each firing of the greatest limit.
-pub record CanGoOn (names : List (List ℕ)) (graph : QGraph) (grammars : ℕ) : Type 0 where
-  pub valid : IsValid graph
-  pub named : AreArcsNamed (length names) graph.arcs
-  pub arcs : length graph.arcs + 16000000 * grammars ≤ 4200000000
-  pub nodes : graph.nodes + 16000000 * grammars ≤ 4200000000
 
 -- Some blocks of a text were written: with what is left to write of it behind them, of which `Rest` holds with its
 -- ending, it is a text of which `Whole` holds. In the same way the first of its blocks are these and the first ones

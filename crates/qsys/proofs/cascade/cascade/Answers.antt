@@ -1,6 +1,6 @@
 use Rattle.std.proofs.Common.{map, refl, arith}
 use Rattle.qs_deck.specs.Decks.{grammar_of}
-use Rattle.qsys.specs.working.Telling.{Begins, Tells}
+use Rattle.qs_telling.specs.working.Telling.{Begins, Tells}
 use Rattle.qsys.proofs.GoingOn.{come_first, turn_arcs, turn_nodes, turn_named, turn_without_memory, turn_failed, turn_empty, turn_over, turn_further, turn_can_go_on, at_end}
 use Rattle.qsys.proofs.cascade.cascade.Goals as goal
 

@@ -1,6 +1,7 @@
 use Rattle.std.proofs.Common.{◌≡◌, length, map, drop}
 use Rattle.qs_deck.specs.Decks.{grammar_of}
-use Rattle.qsys.specs.working.Cascading.{CanGoOn, HasRun}
+use Rattle.qs_telling.specs.working.Cascading.{CanGoOn}
+use Rattle.qsys.specs.working.Cascading.{HasRun}
 use Rattle.qsys.proofs.cascade.cascade.Given as goal
 
 abbrev pub invariant-loop-system : goal.invariant-loop-system

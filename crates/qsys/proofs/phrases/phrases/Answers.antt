@@ -1,8 +1,8 @@
 use Rattle.std.proofs.Common.{◌∙◌, map, refl, arith}
 use Rattle.qs_clean.specs.Cascades.{all_done}
 use Rattle.qs_deck.specs.Decks.{grammar_of}
-use Rattle.qsys.specs.PhraseTexts.{either_by_limit}
-use Rattle.qsys.specs.working.Phrasing.{ending_in}
+use Rattle.qs_telling.specs.PhraseTexts.{either_by_limit}
+use Rattle.qs_telling.specs.Phrasing.{ending_in}
 use Rattle.qsys.proofs.PhraseTurns.{among_lines, status_further, told_first, told_to_end, told_without_memory, told_failed, told_further}
 use Rattle.qsys.proofs.phrases.phrases.Goals as goal
 

@@ -3,7 +3,7 @@ use Rattle.std.specs.Prelude.{IfOk}
 use Rattle.qs_deck.specs.declared.system.System.{System}
 use Rattle.qs_deck.specs.Decks.{grammar_of}
 use Rattle.qs_deck.specs.Named.{AreSystemsNamed}
-use Rattle.qsys.specs.LevelTexts.{TellsLevels}
+use Rattle.qs_telling.specs.LevelTexts.{TellsLevels}
 use Rattle.qsys.proofs.Ending.{cascade_defined, explanation_defined, check_defined, graph_defined, levels_defined, told_defined, written_defined}
 use Rattle.qsys.proofs.run.answer_deck.Goals as goal
 

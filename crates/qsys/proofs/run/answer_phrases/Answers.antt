@@ -5,12 +5,12 @@ use Rattle.qs_deck.specs.Decks.{grammar_of}
 use Rattle.qs_deck.specs.Named.{AreSystemsNamed}
 use Rattle.qs_deck.specs.PhraseTexts.{EndsForPhrases}
 use Rattle.qs_deck.specs.declared.deck.DeckEnd.TheVariants as deck_end
-use Rattle.qsys.specs.declared.status.Status.TheVariants as status
-use Rattle.qsys.specs.Texts.{refusal_line}
-use Rattle.qsys.specs.Cascading.{AreAccepted}
+use Rattle.qs_command.specs.declared.status.Status.TheVariants as status
+use Rattle.qs_telling.specs.Texts.{refusal_line}
+use Rattle.qs_telling.specs.Cascading.{AreAccepted}
+use Rattle.qs_telling.proofs.PhraseRuns.{grammars_few, phrases_accepted}
+use Rattle.qs_telling.proofs.PhrasesTold.{lines_some}
 use Rattle.qsys.specs.working.Phrasing.{DeliversPhrases}
-use Rattle.qsys.proofs.PhraseRuns.{grammars_few, phrases_accepted}
-use Rattle.qsys.proofs.PhrasesTold.{lines_some}
 use Rattle.qsys.proofs.Ending.{phrases_defined, refused_phrases_defined, written_defined}
 use Rattle.qsys.proofs.run.answer_phrases.Goals as goal
 

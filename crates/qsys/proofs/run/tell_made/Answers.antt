@@ -1,5 +1,5 @@
-use Rattle.qsys.specs.Defined.{summary}
-use Rattle.qsys.specs.working.Ends.{left_of}
+use Rattle.qs_telling.specs.Summaries.{summary}
+use Rattle.qs_telling.specs.Ends.{left_of}
 use Rattle.qsys.proofs.MadeEnds.{made_defined, written_ends}
 use Rattle.qsys.proofs.run.tell_made.Goals as goal
 

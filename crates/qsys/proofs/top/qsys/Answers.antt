@@ -1,10 +1,10 @@
 use Rattle.std.proofs.Common.{inl, inr, Err, ap, map, subst, sym, ◌∙◌}
 use Rattle.std.specs.String.{string_bytes}
-use Rattle.qsys.specs.declared.job.Job.{Job}
+use Rattle.qs_command.specs.declared.job.Job.{Job}
+use Rattle.qs_command.proofs.ReadWords.{not_both, same_job}
 use Rattle.qsys.specs.Answers.{EndsAsDefined}
 use Rattle.qsys.specs.Calls.{DoesJob}
 use Rattle.qsys.proofs.Calls.{nothing_done, nothing_read}
-use Rattle.qsys.proofs.ReadWords.{not_both, same_job}
 use Rattle.qsys.proofs.top.qsys.Goals as goal
 
 -- a job that is read from the words is the one that they give

@@ -1,0 +1,3 @@
+pub mod OptionLemmas
+pub mod CommandLemmas
+pub mod ReadWords

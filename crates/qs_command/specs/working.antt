@@ -1,0 +1,2 @@
+-- Working definitions: private functions and proofs need them, and no public contract cites one.
+pub mod Options

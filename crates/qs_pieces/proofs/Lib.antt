@@ -1,0 +1,15 @@
+pub mod RenamedGrammars
+pub mod ReadUnderOthers
+pub mod WrittenUnderOthers
+pub mod DecksUnderOthers
+pub mod Renumbering
+pub mod TwoPieces
+pub mod MarksRead
+pub mod Neighbours
+pub mod QuotedFronts
+pub mod Passing
+pub mod PassingRules
+pub mod PassingDecks
+pub mod OneLineNames
+pub mod Cutting
+pub mod InTwoPieces

@@ -1,0 +1,10 @@
+pub mod Outcomes
+pub mod Tellings
+pub mod NextSystems
+pub mod LevelsTold
+pub mod ReadingsTold
+pub mod ReadingLines
+pub mod PhrasesTold
+pub mod PhraseRuns
+-- Made decks.
+pub mod MadeEnds

@@ -1,0 +1,11 @@
+pub mod Texts
+pub mod Outcomes
+pub mod Explanations
+pub mod Ends
+pub mod Telling
+pub mod Summaries
+pub mod LevelTexts
+pub mod PhraseTexts
+pub mod Phrasing
+pub mod Cascading
+pub mod working

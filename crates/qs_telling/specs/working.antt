@@ -1,0 +1,5 @@
+-- Working definitions: private functions and proofs need them, and no public contract cites one.
+pub mod Named
+pub mod Telling
+pub mod Cascading
+pub mod Phrasing

@@ -1,8 +1,0 @@
-use Rattle.std.proofs.Common.{length, drop}
-use Rattle.qsys.specs.working.Cascading.{CanGoOn}
-use Rattle.qsys.proofs.PhraseRuns.{GoesOn}
-use Rattle.qsys.proofs.phrasing.PhraseTeller.run.Given as goal
-
-abbrev pub invariant-loop-grammar : goal.invariant-loop-grammar
-invariant-loop-grammar g l =
-    GoesOn l.self.limit l.self.systems.now l.grammar-index l.initial.graph l.graph × CanGoOn l.self.names.now l.graph (length (drop l.grammar-index l.self.systems.now))
