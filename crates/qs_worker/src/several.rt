@@ -24,23 +24,27 @@ use std::sync::Wait;
 use std::sync::atomic::{AtomicU64, Ordering};
 use std::thread;
 use std::thread::Threads;
+use std::time::Duration;
 
 // How often, at most, a worker gives way to other threads before it asks the board again.
 const MOST_YIELDS: u32 = 64;
 
-// How often, at most, a worker other than the first gives way to other threads behind one of its works.
-const MOST_PAUSE: u32 = 65_536;
+// How long, at most, a worker other than the first pauses behind one of its works, in microseconds.
+const MOST_PAUSE: u32 = 32_768;
 
 // So many times as long is a pause as the one before it, or so many times as short.
 const LONGER: u32 = 8;
 
-// Works are small where the others publish an arc while a worker gives way so often.
-const SMALL: u32 = 16;
+// Works are small where the others publish an arc in so many microseconds.
+const SMALL: u32 = 8;
+
+// A pause of so many microseconds or more is slept. Falling asleep takes too long for a shorter one.
+const SLEPT: u32 = 256;
 
 // Nobody has seen the end of the run as yet, or somebody has.
-const RUNNING: u64 = 0;
+const RUNNING: u32 = 0;
 
-const ENDED: u64 = 1;
+const ENDED: u32 = 1;
 
 // For so many arcs of the start a further thread is worth while.
 const ARCS_EACH: usize = 16;
@@ -69,10 +73,10 @@ fn give_way(times: u32) -> u32 {
     }
 }
 
-// How often a worker other than the first gives way behind a work: it paused so often behind the work before, and so
-// many arcs have come since. Where works are small, nearly all of their time is turns, which hold up each other, and a
-// worker has to take all arcs along that came meanwhile: so it pauses longer and leaves the works to the first worker.
-// Where they take long, it soon makes no pause at all.
+// How many microseconds a worker other than the first pauses behind a work: it paused so long behind the work before,
+// and so many arcs have come since. Where works are small, nearly all of their time is turns, which hold up each other,
+// and a worker has to take all arcs along that came meanwhile: so it pauses longer and leaves the works to the first
+// worker. Where they take long, it soon makes no pause at all.
 fn next_pause(pause: u32, come: u32) -> u32 {
     if come <= pause / SMALL {
         pause / LONGER
@@ -83,14 +87,21 @@ fn next_pause(pause: u32, come: u32) -> u32 {
     }
 }
 
-// Gives way to other threads so often, or until a worker has seen the end.
-fn pause_for(times: u32, ended: &AtomicU64) {
-    for _ in 0..times {
-        if ended.load(Ordering::SeqCst) == ENDED {
-            return;
-        }
+// Pauses for about so many microseconds, or until a worker has seen the end.
+fn pause_for<R: Wait>(rt: &R, pause: u32, ended: &AtomicU64) {
+    if pause >= SLEPT {
+        ended.park_timeout(rt, RUNNING, Duration::from_micros(u64::from(pause)));
+        return;
+    }
+    for _ in 0..pause {
         thread::yield_now();
     }
+}
+
+// Tells the workers that pause that one has seen the end.
+fn tell_end(ended: &AtomicU64) {
+    ended.store(u64::from(ENDED), Ordering::SeqCst);
+    ended.wake_all();
 }
 
 // Publishes the firings of this work, in their order, each in a turn of its own, where its arc is claimed and none of
@@ -220,12 +231,12 @@ fn work_on<R: Wait, G: Gate>(
                 times = 1;
                 if pass.number() != 0 {
                     pause = next_pause(pause, view.len().saturating_sub(seen));
-                    pause_for(pause, &desk.ended);
+                    pause_for(rt, pause, &desk.ended);
                 }
             }
             Ok(false) => times = give_way(times),
             Err(_) => {
-                desk.ended.store(ENDED, Ordering::SeqCst);
+                tell_end(&desk.ended);
                 return;
             }
         }
@@ -357,7 +368,7 @@ pub fn run_together<R: Threads + Wait + Sync, G: Gate + Sync>(
     let threads = threads_for(rt, workers as usize, start.edges().len());
     let desk = Desk {
         board,
-        ended: AtomicU64::new(RUNNING),
+        ended: AtomicU64::new(u64::from(RUNNING)),
     };
     work_beside(rt, alloc, grammar, &desk, gate, threads, &mut passes);
     let Desk { board, ended: _ } = desk;
