@@ -11,7 +11,6 @@ ghost use Rattle.qs_command.specs.declared.words.WordsEnd.TheVariants as end;
 mod cascade;
 pub mod defined_laws;
 mod endings;
-pub mod laws;
 pub mod over;
 mod phrases;
 pub mod run;
