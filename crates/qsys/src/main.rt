@@ -8,16 +8,8 @@ ghost use Rattle.std.specs.declared.io.ErrorKind.TheVariants as kind;
 ghost use Rattle.std.specs.Vec.Iter.{into_iter_items};
 ghost use Rattle.qs_command.specs.declared.words.WordsEnd.TheVariants as end;
 
-mod cascade;
-pub mod defined_laws;
-mod endings;
-pub mod over;
-mod phrases;
-pub mod run;
-pub mod top;
-
-use crate::over::{refuse_over, run_over};
 use qs_command::{Status, WordsEnd, exit_code};
+use qs_program::over::{refuse_over, run_over};
 use std::alloc::{AllocError, Global};
 use std::env::{Args, Env};
 use std::io::ErrorKind;
